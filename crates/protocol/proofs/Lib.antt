@@ -1,0 +1,3 @@
+pub mod Windows
+pub mod Finding
+pub mod Published

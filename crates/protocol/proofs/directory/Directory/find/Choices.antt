@@ -1,0 +1,11 @@
+use mathlib.Core.Path.{_≡_}
+use Prim.Native.Nat.{_-_}
+use lib.ListN.{take, drop}
+use Rattle.protocol.specs.Search.{liesIn, firstIn, windowOf}
+use Rattle.protocol.proofs.directory.Directory.find.Given as given
+
+abbrev pub Inv-loop-i : given.InvT-loop-i
+Inv-loop-i g l =
+    let test = liesIn (g .E·Entry .used) (g .E·Entry .label) (l .low) (l .high) in
+    firstIn test (l .i) (take (l .end - l .i) (drop (l .i) (l .self .entries .now)))
+    ≡ firstIn test (l .from) (windowOf (l .from) (l .count) (l .self .entries .now))

@@ -1,0 +1,18 @@
+-- When an entry of a table is in use.
+use mathlib.Core.Bool.{Bool, true, false}
+use Rattle.protocol.specs.declared.state.State.{State}
+use Rattle.protocol.specs.declared.state.State.the-variants.{I, S, SM, EC, EM}
+use Rattle.protocol.specs.declared.lock.LockState.{LockState}
+use Rattle.protocol.specs.declared.lock.LockState.the-variants.{E, L, LW}
+
+abbrev pub valid : State → Bool
+valid I = false
+valid S = true
+valid SM = true
+valid EC = true
+valid EM = true
+
+abbrev pub locked : LockState → Bool
+locked E = false
+locked L = true
+locked LW = true

@@ -1,0 +1,11 @@
+// The published protocol: states, commands, geometry, cache lines, lock entries, the search and the state table.
+pub mod answer;
+pub mod command;
+pub mod directory;
+pub mod geometry;
+pub mod line;
+pub mod lock;
+pub mod measures;
+pub mod refusal;
+pub mod state;
+pub mod table;
