@@ -10,7 +10,7 @@ use Rattle.std.proofs.shelf.Lists.{take-all, drop-more}
 use Rattle.std.proofs.shelf.Ways.{leb-tells}
 use Rattle.std.specs.declared.option.Option.{Option}
 use Rattle.std.specs.declared.option.Option.the-variants.{Some, None}
-use Rattle.protocol.specs.Search.{firstIn, windowOf}
+use Rattle.protocol.specs.Search.{firstIn, windowOf, lowestFrom}
 
 take-cut : {X : Type 0} (ys : List X) (m n : ℕ) → m ≡ min n (length ys) → take m ys ≡ take n ys
 take-cut ys m n e =
@@ -41,3 +41,22 @@ pub first-miss : {X : Type 0} (test : X → Bool) (xs : List X) (i end : ℕ) (d
     → false ≡ test (getD xs i d)
     → firstIn test i (take (end - i) (drop i xs)) ≡ firstIn test (i + 1) (take (end - (i + 1)) (drop (i + 1) xs))
 first-miss test xs i end d h k e = first-more test xs i end d h k ∙ rw (← e)
+
+pub first-end : {X : Type 0} (test : X → Bool) (xs : List X) (i end : ℕ) → end ≤ i
+    → firstIn test i (take (end - i) (drop i xs)) ≡ None
+first-end test xs i end h =
+    let none : end - i ≡ 0 = omega arith in ap (λ n. firstIn test i (take n (drop i xs))) none
+
+-- the step of a search over numbers
+lowest-more : (test : ℕ → Bool) (i end : ℕ) → i < end
+    → lowestFrom test i (end - i) ≡ cond (test i) (Some i) (lowestFrom test (i + 1) (end - (i + 1)))
+lowest-more test i end h =
+    let one : end - i ≡ suc (end - (i + 1)) = omega arith in
+    ap (lowestFrom test i) one
+
+pub lowest-hit : (test : ℕ → Bool) (i end : ℕ) → i < end → test i ≡ true → lowestFrom test i (end - i) ≡ Some i
+lowest-hit test i end h e = lowest-more test i end h ∙ rw e
+
+pub lowest-miss : (test : ℕ → Bool) (i end : ℕ) → i < end → test i ≡ false
+    → lowestFrom test i (end - i) ≡ lowestFrom test (i + 1) (end - (i + 1))
+lowest-miss test i end h e = lowest-more test i end h ∙ rw e

@@ -12,6 +12,14 @@ valid SM = true
 valid EC = true
 valid EM = true
 
+-- memory does not have the block's words
+abbrev pub modified : State → Bool
+modified I = false
+modified S = false
+modified SM = true
+modified EC = false
+modified EM = true
+
 abbrev pub locked : LockState → Bool
 locked E = false
 locked L = true

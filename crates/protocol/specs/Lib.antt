@@ -5,3 +5,5 @@ pub mod Entries
 pub mod Search
 pub mod Answers
 pub mod StateTable
+pub mod Lines
+pub mod Acting

@@ -1,5 +1,5 @@
 -- Which measures a cluster may have.
-use Prim.Native.Nat.{ℕ}
+use Prim.Native.Nat.{ℕ, _≤_}
 use mathlib.Core.Bool.{Bool, _&&_}
 use lib.Dec.{leb, eqb}
 use lib.Count.{ones}
@@ -21,6 +21,13 @@ abbrev pub low-costs : Costs → Bool
 low-costs c =
     leb (c .«swap_in») 1000 && leb (c .transfer) 1000 && leb (c .invalidation) 1000 && leb (c .«swap_out») 1000
     && leb (c .«lock_signal») 1000
+
+pub record LowCosts (c : Costs) : Type 0 where
+  pub in-low : c .«swap_in» ≤ 1000
+  pub transfer-low : c .transfer ≤ 1000
+  pub invalidation-low : c .invalidation ≤ 1000
+  pub out-low : c .«swap_out» ≤ 1000
+  pub signal-low : c .«lock_signal» ≤ 1000
 
 abbrev pub lawful : Measures → Bool
 lawful m =

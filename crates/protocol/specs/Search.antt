@@ -1,5 +1,5 @@
 -- The search that serves both tables.
-use Prim.Native.Nat.{ℕ, _+_, _<_, _≤_}
+use Prim.Native.Nat.{ℕ, zero, suc, _+_, _<_, _≤_}
 use mathlib.Core.Bool.{Bool, cond, _&&_}
 use mathlib.Core.List.{List, [], _∷_}
 use lib.Dec.{leb}
@@ -23,3 +23,8 @@ windowOf from count xs = take count (drop from xs)
 -- a place that was found lies in the window and in the table
 abbrev pub Within : {X : Type 0} → ℕ → ℕ → List X → Option ℕ → Type 0
 Within from count xs r = found r (λ i. (from ≤ i) × (i < from + count) × (i < length xs))
+
+-- the lowest of `count` numbers from `from` on that passes the test
+abbrev pub lowestFrom : (ℕ → Bool) → ℕ → ℕ → Option ℕ
+lowestFrom test from zero = None
+lowestFrom test from (suc count) = cond (test from) (Some from) (lowestFrom test (from + 1) count)

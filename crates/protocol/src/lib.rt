@@ -1,4 +1,5 @@
 // The published protocol: states, commands, geometry, cache lines, lock entries, the search and the state table.
+pub mod acting;
 pub mod answer;
 pub mod command;
 pub mod directory;

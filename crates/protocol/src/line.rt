@@ -1,5 +1,7 @@
 // A cache line, and the order in which the search sees it.
+ghost use mathlib.Core.Path.{_≡_};
 ghost use Rattle.protocol.specs.Entries.{valid};
+ghost use Rattle.protocol.specs.Lines.{inState};
 use crate::directory::Entry;
 use crate::state::State;
 
@@ -16,6 +18,21 @@ impl Line {
         block: 0,
         words: [0; 4],
     };
+
+    // The same copy in another state. A line that becomes I is blank.
+    pub fn with_state(self, state: State) -> Line
+        ensures { λ r. ⌜ r ≡ inState self state ⌝ }
+    {
+        let words = self.words;
+        match state {
+            State::I => Line::BLANK,
+            _ => Line {
+                state,
+                block: self.block,
+                words,
+            },
+        }
+    }
 }
 
 pub impl Entry for Line as LineEntry {
@@ -24,10 +41,7 @@ pub impl Entry for Line as LineEntry {
     ghost label = { λ l. l .block };
 
     fn in_use(&self) -> bool {
-        match self.state {
-            State::I => false,
-            _ => true,
-        }
+        self.state.is_valid()
     }
 
     fn key(&self) -> u32 {

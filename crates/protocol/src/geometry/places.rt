@@ -3,7 +3,7 @@ ghost use mathlib.Core.Path.{_≡_};
 ghost use mathlib.Core.Bool.{cond};
 ghost use Prim.Native.Nat.{_+_, _≤_, _<_};
 ghost use Rattle.std.specs.declared.result.Result.the-variants.{Ok, Err};
-ghost use Rattle.protocol.specs.Limits.{lawful, measured};
+ghost use Rattle.protocol.specs.Limits.{lawful, measured, LowCosts};
 ghost use Rattle.protocol.specs.Places.{lineCount, lockCount, windowStart, locksStart};
 use crate::geometry::Geometry;
 use crate::measures::Costs;
@@ -59,6 +59,13 @@ impl Geometry {
         ensures bound { λ r. ⌜ r ≤ 4 ⌝ }
     {
         self.measures.lock_entries
+    }
+
+    pub fn costs(&self) -> Costs
+        ensures value { λ r. ⌜ r ≡ now (self .entry) .measures .costs ⌝ }
+        ensures low { λ r. ⌜ LowCosts r ⌝ }
+    {
+        self.measures.costs
     }
 
     pub fn line_count(&self) -> usize

@@ -1,0 +1,145 @@
+// What a command meets: refusals 3 to 10, else what it found and what the state table says.
+ghost use mathlib.Core.Path.{_≡_};
+ghost use Prim.Native.Nat.{_<_};
+ghost use lib.ListN.{length};
+ghost use Rattle.std.specs.Slices.{found};
+ghost use Rattle.std.specs.Vec.{made};
+ghost use Rattle.protocol.specs.Places.{lineCount};
+ghost use Rattle.cluster.specs.Cases.{Sound};
+use crate::caches::line_at;
+use crate::caches::line_of;
+use crate::caches::supplier;
+use crate::cluster::Cluster;
+use crate::locks::free_entry;
+use crate::locks::held_entry;
+use crate::locks::lock_holder;
+use protocol::acting::acts_as;
+use protocol::command::Action;
+use protocol::command::BusCommand;
+use protocol::command::Command;
+use protocol::command::Request;
+use protocol::line::Line;
+use protocol::lock::LockEntry;
+use protocol::refusal::Refusal;
+use protocol::state::State;
+use protocol::table::Cell;
+use protocol::table::Effect;
+use protocol::table::look_up;
+
+// `place` is the line found in the own cache, `entry` the lock entry that is written or emptied,
+// `copy` the supplier and `holder` the lowest other processor with a lock in the block.
+#[derive(Clone, Copy)]
+pub struct Case {
+    pub processor: u8,
+    pub command: Command,
+    pub address: u32,
+    pub block: u32,
+    pub action: Action,
+    pub place: Option<usize>,
+    pub found: State,
+    pub effect: Effect,
+    pub copy: Option<u8>,
+    pub holder: Option<u8>,
+    pub entry: Option<usize>,
+}
+
+impl Case {
+    // The cell sends F, FI or LK, and another processor has a lock in the block.
+    pub fn lock_hit(&self) -> Option<u8> {
+        match self.effect.bus {
+            Some(BusCommand::F) | Some(BusCommand::FI) => self.holder,
+            _ if self.effect.lk => self.holder,
+            _ => None,
+        }
+    }
+
+    // Every command that found I takes a way, except U.
+    pub fn takes_way(&self) -> bool {
+        match self.action {
+            Action::U => false,
+            _ => !self.found.is_valid(),
+        }
+    }
+}
+
+impl Cluster {
+    // The lock entry that the command writes or empties: refusals 6, 7 and 8.
+    fn entry_for(&self, locks: &[LockEntry], request: Request) -> Result<Option<usize>, Refusal>
+        ensures within { λ r. ⌜ made r (λ e. found e (λ i. i < length (now (locks .entry)))) ⌝ }
+    {
+        let held = held_entry(&self.geometry, locks, request.processor, request.address);
+        match request.command {
+            Command::LR => {
+                if held.is_some() {
+                    return Err(Refusal::LockHeld);
+                }
+                match free_entry(&self.geometry, locks, request.processor) {
+                    Some(i) => Ok(Some(i)),
+                    None => Err(Refusal::NoLockEntry),
+                }
+            }
+            Command::U | Command::UW(_) => match held {
+                Some(i) => Ok(Some(i)),
+                None => Err(Refusal::NoLock),
+            },
+            _ => Ok(None),
+        }
+    }
+
+    // Refusals 3, 4 and 5.
+    fn admit(&self, blocks: u32, request: Request) -> Result<(), Refusal>
+        ensures known { λ r. ⌜ made r (λ _. request .processor < now (self .entry) .geometry .measures .processors) ⌝ }
+    {
+        if request.processor >= self.geometry.processors() {
+            return Err(Refusal::Processor);
+        }
+        if request.address / 4 >= blocks {
+            return Err(Refusal::Address);
+        }
+        match self.processors[request.processor as usize].waits_for {
+            Some(_) => Err(Refusal::Waiting),
+            None => Ok(()),
+        }
+    }
+
+    pub fn case_of(
+        &self,
+        lines: &[Line],
+        locks: &[LockEntry],
+        blocks: u32,
+        request: Request,
+    ) -> Result<Case, Refusal>
+        requires { ⌜ length (now lines) ≡ lineCount (now self .geometry .measures) ⌝ }
+        ensures sound { λ r. ⌜ made r (λ case. Sound (now (self .entry) .geometry .measures) (length (now (lines .entry))) (length (now (locks .entry))) case) ⌝ }
+    {
+        self.admit(blocks, request)?;
+        let entry = self.entry_for(locks, request)?;
+        let block = request.address / 4;
+        let place = line_of(&self.geometry, lines, request.processor, block);
+        let found = line_at(lines, place).state;
+        let copy = supplier(&self.geometry, lines, request.processor, block);
+        let holder = lock_holder(&self.geometry, locks, request.processor, block);
+        let action = acts_as(request.command, request.address, found, copy.is_some());
+        if let Action::DW = action {
+            if !found.is_valid() && (copy.is_some() || holder.is_some()) {
+                return Err(Refusal::CopyElsewhere);
+            }
+        }
+        match look_up(action, found) {
+            Cell::MachineCheck => Err(Refusal::MachineCheck(found)),
+            Cell::Legal(effect) => Ok(Case {
+                processor: request.processor,
+                command: request.command,
+                address: request.address,
+                block,
+                action,
+                place,
+                found,
+                effect,
+                copy,
+                holder,
+                entry,
+            }),
+        }
+    }
+}

@@ -1,0 +1,294 @@
+// The command call: memory is read first, then the swap-out is written, then the tables change.
+ghost use mathlib.Core.Path.{_≡_};
+ghost use mathlib.Core.Bool.{cond};
+ghost use Prim.Native.Nat.{_<_, _≤_};
+ghost use lib.ListN.{length};
+ghost use Rattle.std.specs.Slices.{found};
+ghost use Rattle.std.specs.declared.result.Result.the-variants.{Ok, Err};
+ghost use Rattle.protocol.specs.Limits.{LowCosts};
+ghost use Rattle.protocol.specs.Places.{lineCount};
+ghost use Rattle.cluster.specs.Cases.{Sound, ownPlace};
+ghost use Rattle.cluster.specs.Making.{tablesFit};
+use crate::caches::Taken;
+use crate::caches::line_at;
+use crate::caches::line_of;
+use crate::caches::snoop_others;
+use crate::caches::take_way;
+use crate::case::Case;
+use crate::cluster::Cluster;
+use crate::locks::mark_waited;
+use crate::locks::release;
+use memory::memory::Memory;
+use protocol::acting::word_answered;
+use protocol::acting::words_left;
+use protocol::answer::Answer;
+use protocol::answer::Completion;
+use protocol::answer::LockHit;
+use protocol::answer::Supplier;
+use protocol::command::BusCommand;
+use protocol::command::Command;
+use protocol::command::Request;
+use protocol::geometry::Geometry;
+use protocol::line::Line;
+use protocol::lock::LockEntry;
+use protocol::lock::LockState;
+use protocol::measures::Costs;
+use protocol::refusal::Direction;
+use protocol::refusal::Refusal;
+use protocol::state::State;
+
+// The block's words before the command, and who supplied them.
+#[derive(Clone, Copy)]
+struct Supply {
+    words: [u32; 4],
+    from: Option<Supplier>,
+}
+
+fn fetch<M: Memory>(
+    geometry: &Geometry,
+    lines: &[Line],
+    memory: &M,
+    case: &Case,
+) -> Result<Supply, Refusal>
+    requires { ⌜ found (now case .place) (λ i. i < length (now lines)) ⌝ }
+{
+    match case.effect.bus {
+        Some(BusCommand::F) | Some(BusCommand::FI) => match case.copy {
+            Some(q) => {
+                let words = line_at(lines, line_of(geometry, lines, q, case.block)).words;
+                Ok(Supply {
+                    words,
+                    from: Some(Supplier::Cache(q)),
+                })
+            }
+            None => match memory.read(case.block) {
+                Ok(words) => Ok(Supply {
+                    words,
+                    from: Some(Supplier::Memory),
+                }),
+                Err(_) => Err(Refusal::Memory(case.block, Direction::Read)),
+            },
+        },
+        _ => {
+            let words = line_at(lines, case.place).words;
+            Ok(Supply { words, from: None })
+        }
+    }
+}
+
+// The block that a taken way gives back to memory, if it was modified there.
+fn swap_out<M: Memory>(
+    lines: &[Line],
+    memory: &mut M,
+    taken: Option<Taken>,
+) -> Result<Option<u32>, Refusal>
+    requires { ⌜ found taken (λ t. t .place < length (now lines)) ⌝ }
+{
+    let Some(way) = taken else {
+        return Ok(None);
+    };
+    let old = lines[way.place];
+    if !old.state.is_modified() {
+        return Ok(None);
+    }
+    match memory.write(old.block, old.words) {
+        Ok(()) => Ok(Some(old.block)),
+        Err(_) => Err(Refusal::Memory(old.block, Direction::Write)),
+    }
+}
+
+fn state_left(case: &Case, from: Option<Supplier>) -> State {
+    match from {
+        Some(Supplier::Cache(_)) => case.effect.from_cache,
+        _ => case.effect.from_memory,
+    }
+}
+
+// What took place costs: swap-out, transfer or swap-in, invalidation, lock signal.
+fn cycles(
+    costs: &Costs,
+    from: Option<Supplier>,
+    bus: Option<BusCommand>,
+    swapped: bool,
+    ul: bool,
+) -> u32
+    requires { ⌜ LowCosts (now costs) ⌝ }
+    ensures bound { λ r. ⌜ r ≤ 4000 ⌝ }
+{
+    let supply = match from {
+        Some(Supplier::Cache(_)) => costs.transfer,
+        Some(Supplier::Memory) => costs.swap_in,
+        None => 0,
+    };
+    let invalidation = match bus {
+        Some(BusCommand::I) => costs.invalidation,
+        _ => 0,
+    };
+    let swap_out = if swapped { costs.swap_out } else { 0 };
+    let signal = if ul { costs.lock_signal } else { 0 };
+    swap_out + supply + invalidation + signal
+}
+
+// Where the own line stands after the command: in the way taken, else where it was found.
+fn own_place(case: &Case, taken: Option<Taken>) -> Option<usize>
+    ensures { λ r. ⌜ r ≡ ownPlace (now (case .entry) .place) taken ⌝ }
+{
+    match taken {
+        Some(way) => Some(way.place),
+        None => case.place,
+    }
+}
+
+fn chosen_by_turn(taken: Option<Taken>) -> bool {
+    match taken {
+        Some(way) => way.by_turn,
+        None => false,
+    }
+}
+
+impl Cluster {
+    // The processor waits for the block from now on, and the holders know.
+    fn wait(&mut self, locks: &mut [LockEntry], case: &Case, holder: u8) -> LockHit
+        requires known { ⌜ now case .processor < now self .geometry .measures .processors ⌝ }
+        requires block { ⌜ now case .block < 1073741824 ⌝ }
+    {
+        mark_waited(&self.geometry, locks, case.processor, case.block);
+        self.processors[case.processor as usize].waits_for = Some(case.block);
+        LockHit {
+            holder,
+            found: case.found,
+            cycles: self.geometry.costs().lock_signal,
+        }
+    }
+
+    fn taken(&self, lines: &[Line], case: &Case) -> Option<Taken>
+        requires rows { ⌜ length (now lines) ≡ lineCount (now self .geometry .measures) ⌝ }
+        requires known { ⌜ now case .processor < now self .geometry .measures .processors ⌝ }
+        ensures within { λ r. ⌜ found r (λ t. t .place < length (now (lines .entry))) ⌝ }
+    {
+        if !case.takes_way() {
+            return None;
+        }
+        let turn = self.processors[case.processor as usize].turn;
+        Some(take_way(&self.geometry, lines, case.processor, case.block, turn))
+    }
+
+    fn raise_turn(&mut self, processor: u8)
+        requires { ⌜ processor < now self .geometry .measures .processors ⌝ }
+    {
+        let ways = self.geometry.ways();
+        let turn = self.processors[processor as usize].turn % ways;
+        self.processors[processor as usize].turn = (turn + 1) % ways;
+    }
+
+    fn wake(&mut self, block: u32) {
+        for p in 0..8 {
+            if let Some(awaited) = self.processors[p].waits_for {
+                if awaited == block {
+                    self.processors[p].waits_for = None;
+                }
+            }
+        }
+    }
+
+    // LR takes its entry; U and UW empty theirs and wake who waits. Whether UL is sent.
+    fn settle_locks(&mut self, locks: &mut [LockEntry], case: &Case) -> bool
+        requires { ⌜ found (now case .entry) (λ i. i < length (now locks)) ⌝ }
+    {
+        let Some(i) = case.entry else {
+            return false;
+        };
+        if let Command::LR = case.command {
+            locks[i] = LockEntry {
+                state: LockState::L,
+                address: case.address,
+            };
+            return false;
+        }
+        let waited = release(locks, i);
+        if waited {
+            self.wake(case.block);
+        }
+        waited
+    }
+}
+
+impl Cluster {
+    // The tables after a command that is not refused and does not wait.
+    fn finish(
+        &mut self,
+        lines: &mut [Line],
+        locks: &mut [LockEntry],
+        case: &Case,
+        supply: Supply,
+        taken: Option<Taken>,
+        swapped_out: Option<u32>,
+    ) -> Completion
+        requires sound { ⌜ Sound (now self .geometry .measures) (length (now lines)) (length (now locks)) (now case) ⌝ }
+        requires way { ⌜ found taken (λ t. t .place < length (now lines)) ⌝ }
+    {
+        let words = supply.words;
+        let left = state_left(case, supply.from);
+        if let Some(bus) = case.effect.bus {
+            snoop_others(&self.geometry, lines, case.processor, case.block, bus);
+        }
+        if let Some(i) = own_place(case, taken) {
+            let copy = Line {
+                state: left,
+                block: case.block,
+                words: words_left(case.command, case.address, words),
+            };
+            lines[i] = copy.with_state(left);
+        }
+        if chosen_by_turn(taken) {
+            self.raise_turn(case.processor);
+        }
+        let ul = self.settle_locks(locks, case);
+        let costs = self.geometry.costs();
+        Completion {
+            word: word_answered(case.command, case.address, words),
+            found: case.found,
+            left,
+            bus: case.effect.bus,
+            lk: case.effect.lk,
+            ul,
+            supplier: supply.from,
+            swapped_out,
+            cycles: cycles(
+                &costs,
+                supply.from,
+                case.effect.bus,
+                swapped_out.is_some(),
+                ul,
+            ),
+        }
+    }
+
+    fn check_tables(&self, lines: &[Line], locks: &[LockEntry]) -> Result<(), Refusal>
+        ensures { λ r. ⌜ r ≡ cond (tablesFit (now (self .entry) .geometry .measures) (length (now (lines .entry))) (length (now (locks .entry)))) (Ok tt) (Err Refusal.TableLength) ⌝ }
+    {
+        if lines.len() != self.geometry.line_count() || locks.len() != self.geometry.lock_count() {
+            return Err(Refusal::TableLength);
+        }
+        Ok(())
+    }
+
+    // Issues a command for a processor.
+    pub fn issue<M: Memory>(
+        &mut self,
+        lines: &mut [Line],
+        locks: &mut [LockEntry],
+        memory: &mut M,
+        request: Request,
+    ) -> Result<Answer, Refusal> {
+        self.check_tables(lines, locks)?;
+        let case = self.case_of(lines, locks, memory.blocks(), request)?;
+        if let Some(holder) = case.lock_hit() {
+            return Ok(Answer::Wait(self.wait(locks, &case, holder)));
+        }
+        let supply = fetch(&self.geometry, lines, memory, &case)?;
+        let taken = self.taken(lines, &case);
+        let swapped_out = swap_out(lines, memory, taken)?;
+        Ok(Answer::Done(self.finish(lines, locks, &case, supply, taken, swapped_out)))
+    }
+}
