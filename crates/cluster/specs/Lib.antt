@@ -1,3 +1,4 @@
 pub mod Making
 pub mod Copies
 pub mod Cases
+pub mod Waiting

@@ -13,7 +13,6 @@ use Rattle.protocol.specs.declared.state.State.the-variants.{I}
 use Rattle.protocol.specs.declared.lock.LockState.the-variants.{E}
 use Rattle.protocol.specs.Places.{lineCount, lockCount}
 use Rattle.cluster.specs.declared.cluster.Processor.{Processor}
-use Rattle.cluster.specs.declared.cluster.Cluster.{Cluster}
 
 abbrev pub blankLine : Line
 blankLine = record { state = I; block = 0; words = replicate 4 0 }
@@ -24,8 +23,8 @@ blankEntry = record { state = E; address = 0 }
 abbrev pub resting : Processor
 resting = record { turn = 0; «waits_for» = None }
 
-abbrev pub atRest : Geometry → Cluster
-atRest g = record { geometry = g; processors = replicate 8 resting }
+abbrev pub allResting : List Processor
+allResting = replicate 8 resting
 
 -- a line for each processor, column and way, and each processor's lock entries
 abbrev pub tablesFit : Measures → ℕ → ℕ → Bool
@@ -35,8 +34,11 @@ module _ (g : Geometry) (lines : List Line) (locks : List LockEntry) where
   abbrev fits : Bool
   fits = tablesFit (g .measures) (length lines) (length locks)
 
-  abbrev pub newCluster : Cluster → Cluster
-  newCluster old = cond fits (atRest g) old
+  abbrev pub newGeometry : Geometry → Geometry
+  newGeometry old = cond fits g old
+
+  abbrev pub newProcessors : List Processor → List Processor
+  newProcessors old = cond fits allResting old
 
   abbrev pub newLines : List Line
   newLines = cond fits (replicate (length lines) blankLine) lines

@@ -6,10 +6,12 @@ ghost use Rattle.std.specs.Slices.{found};
 ghost use Rattle.std.specs.Vec.{made};
 ghost use Rattle.protocol.specs.Places.{lineCount};
 ghost use Rattle.cluster.specs.Cases.{Sound};
+ghost use Rattle.cluster.specs.Waiting.{Ready};
 use crate::caches::line_at;
 use crate::caches::line_of;
 use crate::caches::supplier;
 use crate::cluster::Cluster;
+use crate::cluster::Processor;
 use crate::locks::free_entry;
 use crate::locks::held_entry;
 use crate::locks::lock_holder;
@@ -89,6 +91,7 @@ impl Cluster {
     // Refusals 3, 4 and 5.
     fn admit(&self, blocks: u32, request: Request) -> Result<(), Refusal>
         ensures known { λ r. ⌜ made r (λ _. request .processor < now (self .entry) .geometry .measures .processors) ⌝ }
+        ensures ready { λ r. ⌜ made r (λ _. Ready (now (self .entry) .processors) (request .processor)) ⌝ }
     {
         if request.processor >= self.geometry.processors() {
             return Err(Refusal::Processor);
@@ -96,7 +99,8 @@ impl Cluster {
         if request.address / 4 >= blocks {
             return Err(Refusal::Address);
         }
-        match self.processors[request.processor as usize].waits_for {
+        let table: &[Processor] = &self.processors;
+        match table[request.processor as usize].waits_for {
             Some(_) => Err(Refusal::Waiting),
             None => Ok(()),
         }
@@ -111,6 +115,7 @@ impl Cluster {
     ) -> Result<Case, Refusal>
         requires { ⌜ length (now lines) ≡ lineCount (now self .geometry .measures) ⌝ }
         ensures sound { λ r. ⌜ made r (λ case. Sound (now (self .entry) .geometry .measures) (length (now (lines .entry))) (length (now (locks .entry))) case) ⌝ }
+        ensures ready { λ r. ⌜ made r (λ case. Ready (now (self .entry) .processors) (case .processor)) ⌝ }
     {
         self.admit(blocks, request)?;
         let entry = self.entry_for(locks, request)?;

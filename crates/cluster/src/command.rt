@@ -2,13 +2,16 @@
 ghost use mathlib.Core.Path.{_≡_};
 ghost use mathlib.Core.Bool.{cond};
 ghost use Prim.Native.Nat.{_<_, _≤_};
-ghost use lib.ListN.{length};
+ghost use lib.ListN.{length, getD, set};
 ghost use Rattle.std.specs.Slices.{found};
+ghost use Rattle.std.specs.Vec.{made};
 ghost use Rattle.std.specs.declared.result.Result.the-variants.{Ok, Err};
+ghost use Rattle.protocol.specs.Answers.{cyclesIn};
 ghost use Rattle.protocol.specs.Limits.{LowCosts};
 ghost use Rattle.protocol.specs.Places.{lineCount};
 ghost use Rattle.cluster.specs.Cases.{Sound, ownPlace};
-ghost use Rattle.cluster.specs.Making.{tablesFit};
+ghost use Rattle.cluster.specs.Making.{resting, tablesFit};
+ghost use Rattle.cluster.specs.Waiting.{waitingFor, WaitsMore};
 use crate::caches::Taken;
 use crate::caches::line_at;
 use crate::caches::line_of;
@@ -151,6 +154,8 @@ impl Cluster {
     fn wait(&mut self, locks: &mut [LockEntry], case: &Case, holder: u8) -> LockHit
         requires known { ⌜ now case .processor < now self .geometry .measures .processors ⌝ }
         requires block { ⌜ now case .block < 1073741824 ⌝ }
+        ensures answer { λ r. ⌜ r .cycles ≡ now (self .entry) .geometry .measures .costs .«lock_signal» ⌝ }
+        ensures processors { λ _. ⌜ now (self .exit) .processors ≡ set (now (self .entry) .processors) (now (case .entry) .processor) (waitingFor (getD (now (self .entry) .processors) (now (case .entry) .processor) resting) (now (case .entry) .block)) ⌝ }
     {
         mark_waited(&self.geometry, locks, case.processor, case.block);
         self.processors[case.processor as usize].waits_for = Some(case.block);
@@ -226,6 +231,7 @@ impl Cluster {
     ) -> Completion
         requires sound { ⌜ Sound (now self .geometry .measures) (length (now lines)) (length (now locks)) (now case) ⌝ }
         requires way { ⌜ found taken (λ t. t .place < length (now lines)) ⌝ }
+        ensures bound { λ r. ⌜ r .cycles ≤ 4000 ⌝ }
     {
         let words = supply.words;
         let left = state_left(case, supply.from);
@@ -280,7 +286,10 @@ impl Cluster {
         locks: &mut [LockEntry],
         memory: &mut M,
         request: Request,
-    ) -> Result<Answer, Refusal> {
+    ) -> Result<Answer, Refusal>
+        ensures waiting { λ r. ⌜ WaitsMore r (now (self .entry) .processors) (now (self .exit) .processors) ⌝ }
+        ensures cost { λ r. ⌜ made r (λ a. cyclesIn a ≤ 4000) ⌝ }
+    {
         self.check_tables(lines, locks)?;
         let case = self.case_of(lines, locks, memory.blocks(), request)?;
         if let Some(holder) = case.lock_hit() {

@@ -4,3 +4,4 @@ mod case;
 pub mod cluster;
 pub mod command;
 mod locks;
+mod making;

@@ -3,7 +3,7 @@ use mathlib.Core.List.{[], _∷_, _++_}
 use native.Mathlib.Omega.{arith}
 use lib.ListN.{length, replicate}
 use Rattle.std.proofs.shelf.Lists.{take-more-set, take-all, replicate-more}
-use Rattle.cluster.proofs.cluster.fill.Needs as need
+use Rattle.cluster.proofs.making.fill.Needs as need
 
 pub loop-entry-again : need.loop-entry-again
 loop-entry-again g c =

@@ -1,0 +1,3 @@
+// Traces: records of sixteen bytes between a note and a trailer.
+pub mod record;
+pub mod trace;
