@@ -270,7 +270,8 @@ impl Cluster {
         }
     }
 
-    fn check_tables(&self, lines: &[Line], locks: &[LockEntry]) -> Result<(), Refusal>
+    // Refuses a table of wrong length with 2.
+    pub fn check_tables(&self, lines: &[Line], locks: &[LockEntry]) -> Result<(), Refusal>
         ensures { λ r. ⌜ r ≡ cond (tablesFit (now (self .entry) .geometry .measures) (length (now (lines .entry))) (length (now (locks .entry)))) (Ok tt) (Err Refusal.TableLength) ⌝ }
     {
         if lines.len() != self.geometry.line_count() || locks.len() != self.geometry.lock_count() {

@@ -1,6 +1,7 @@
 // Reading a trace from bytes that hold a note, records and a trailer.
 ghost use Prim.Native.Nat.{_≤_};
 ghost use mathlib.Core.Path.{_≡_};
+ghost use Rattle.std.specs.Vec.{made};
 ghost use Rattle.trace.specs.Sizes.{recordsIn};
 use crate::record::RECORD_SIZE;
 use crate::record::Record;
@@ -22,7 +23,10 @@ pub struct Trace<'a> {
 
 impl<'a> Trace<'a> {
     // Refuses a wrong trailer with 12 and the first wrong record with 13.
-    pub fn read(bytes: &'a [u8]) -> Result<Trace<'a>, Refusal> {
+    pub fn read(bytes: &'a [u8]) -> Result<Trace<'a>, Refusal>
+        ensures few { λ r. ⌜ made r (λ t. recordsIn (now (t .records)) ≤ 1048576) ⌝ }
+        ensures lawful { λ r. ⌜ made r (λ t. (1 ≤ t .processors) × (t .processors ≤ 8)) ⌝ }
+    {
         let n = bytes.len();
         if n < TRAILER_SIZE {
             return Err(Refusal::Trailer);

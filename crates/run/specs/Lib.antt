@@ -1,0 +1,3 @@
+pub mod Answered
+pub mod Board
+pub mod Progress

@@ -1,0 +1,4 @@
+// Runs of a trace over a cluster, and their listings.
+pub mod digits;
+pub mod listing;
+pub mod run;
