@@ -4,7 +4,7 @@ use Rattle.std.specs.Slices.{found}
 use Rattle.protocol.specs.declared.measures.Measures.{Measures}
 use Rattle.std.specs.declared.option.Option.{Option}
 use Rattle.std.specs.declared.option.Option.the-variants.{Some, None}
-use Rattle.cluster.specs.declared.caches.Taken.{Taken}
+use Rattle.cluster.specs.declared.ways.Taken.{Taken}
 use Rattle.cluster.specs.declared.case.Case.{Case}
 
 pub record Sound (m : Measures) (lines locks : ℕ) (c : Case) : Type 0 where

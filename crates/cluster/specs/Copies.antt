@@ -9,7 +9,7 @@ use Rattle.protocol.specs.declared.measures.Measures.{Measures}
 use Rattle.protocol.specs.declared.line.Line.{Line}
 use Rattle.protocol.specs.Entries.{valid}
 use Rattle.protocol.specs.Places.{windowStart}
-use Rattle.protocol.specs.Search.{liesIn, firstIn, windowOf, lowestFrom}
+use Rattle.protocol.specs.Finding.{liesIn, firstIn, windowOf, lowestFrom}
 
 abbrev pub holdsBlock : ℕ → Line → Bool
 holdsBlock block = liesIn (λ l. valid (l .state)) (λ l. l .block) block block

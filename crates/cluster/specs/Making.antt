@@ -9,13 +9,10 @@ use Rattle.protocol.specs.declared.measures.Measures.{Measures}
 use Rattle.protocol.specs.declared.geometry.Geometry.{Geometry}
 use Rattle.protocol.specs.declared.line.Line.{Line}
 use Rattle.protocol.specs.declared.lock.LockEntry.{LockEntry}
-use Rattle.protocol.specs.declared.state.State.the-variants.{I}
 use Rattle.protocol.specs.declared.lock.LockState.the-variants.{E}
+use Rattle.protocol.specs.Lines.{blankLine}
 use Rattle.protocol.specs.Places.{lineCount, lockCount}
 use Rattle.cluster.specs.declared.cluster.Processor.{Processor}
-
-abbrev pub blankLine : Line
-blankLine = record { state = I; block = 0; words = replicate 4 0 }
 
 abbrev pub blankEntry : LockEntry
 blankEntry = record { state = E; address = 0 }

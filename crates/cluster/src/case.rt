@@ -47,7 +47,7 @@ pub struct Case {
 
 impl Case {
     // The cell sends F, FI or LK, and another processor has a lock in the block.
-    pub fn lock_hit(&self) -> Option<u8> {
+    pub(crate) fn lock_hit(&self) -> Option<u8> {
         match self.effect.bus {
             Some(BusCommand::F) | Some(BusCommand::FI) => self.holder,
             _ if self.effect.lk => self.holder,
@@ -56,7 +56,7 @@ impl Case {
     }
 
     // Every command that found I takes a way, except U.
-    pub fn takes_way(&self) -> bool {
+    pub(crate) fn takes_way(&self) -> bool {
         match self.action {
             Action::U => false,
             _ => !self.found.is_valid(),
@@ -106,7 +106,7 @@ impl Cluster {
         }
     }
 
-    pub fn case_of(
+    pub(crate) fn case_of(
         &self,
         lines: &[Line],
         locks: &[LockEntry],

@@ -5,3 +5,5 @@ pub mod cluster;
 pub mod command;
 mod locks;
 mod making;
+mod snooping;
+mod ways;

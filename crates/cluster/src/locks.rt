@@ -29,7 +29,7 @@ fn entry_in(
 }
 
 // The processor's first entry with the address.
-pub fn held_entry(
+pub(crate) fn held_entry(
     geometry: &Geometry,
     locks: &[LockEntry],
     processor: u8,
@@ -41,7 +41,7 @@ pub fn held_entry(
 }
 
 // The processor's lowest empty entry.
-pub fn free_entry(geometry: &Geometry, locks: &[LockEntry], processor: u8) -> Option<usize>
+pub(crate) fn free_entry(geometry: &Geometry, locks: &[LockEntry], processor: u8) -> Option<usize>
     ensures within { λ r. ⌜ found r (λ i. i < length (now (locks .entry))) ⌝ }
 {
     let start = geometry.locks_of(processor);
@@ -55,7 +55,12 @@ pub fn free_entry(geometry: &Geometry, locks: &[LockEntry], processor: u8) -> Op
 }
 
 // The lowest processor but the asking one that has a lock in the block.
-pub fn lock_holder(geometry: &Geometry, locks: &[LockEntry], asking: u8, block: u32) -> Option<u8>
+pub(crate) fn lock_holder(
+    geometry: &Geometry,
+    locks: &[LockEntry],
+    asking: u8,
+    block: u32,
+) -> Option<u8>
     requires { ⌜ block < 1073741824 ⌝ }
 {
     for p in 0..geometry.processors() {
@@ -67,7 +72,7 @@ pub fn lock_holder(geometry: &Geometry, locks: &[LockEntry], asking: u8, block: 
 }
 
 // Every lock of the other processors in the block has somebody waiting now.
-pub fn mark_waited(geometry: &Geometry, locks: &mut [LockEntry], asking: u8, block: u32)
+pub(crate) fn mark_waited(geometry: &Geometry, locks: &mut [LockEntry], asking: u8, block: u32)
     requires { ⌜ block < 1073741824 ⌝ }
 {
     let start = geometry.locks_of(asking);
@@ -81,7 +86,7 @@ pub fn mark_waited(geometry: &Geometry, locks: &mut [LockEntry], asking: u8, blo
 }
 
 // Empties the entry. Whether somebody waited for it.
-pub fn release(locks: &mut [LockEntry], place: usize) -> bool
+pub(crate) fn release(locks: &mut [LockEntry], place: usize) -> bool
     requires { ⌜ place < length (now locks) ⌝ }
 {
     let waited = match locks[place].state {

@@ -18,11 +18,18 @@ pub struct WordTable<'a> {
     words: &'a mut [u32],
 }
 
+// Whole blocks, and not too many.
+fn fits(length: usize) -> bool
+    ensures { λ r. ⌜ r ≡ fit length ⌝ }
+{
+    length % 4 == 0 && length <= MOST_WORDS
+}
+
+// Refuses a table of unfit length with 2.
 pub fn check_table(words: &[u32]) -> Result<(), Refusal>
     ensures { λ r. ⌜ r ≡ cond (fit (length (now (words .entry)))) (Ok tt) (Err Refusal.TableLength) ⌝ }
 {
-    let n = words.len();
-    if n % 4 != 0 || n > MOST_WORDS {
+    if !fits(words.len()) {
         return Err(Refusal::TableLength);
     }
     Ok(())
@@ -46,11 +53,7 @@ pub impl<'a> Memory for WordTable<'a> as WordTableMemory {
 
     fn blocks(&self) -> u32 {
         let n = self.words.len();
-        if n % 4 == 0 && n <= MOST_WORDS {
-            (n / 4) as u32
-        } else {
-            0
-        }
+        if fits(n) { (n / 4) as u32 } else { 0 }
     }
 
     fn read(&self, block: u32) -> Result<[u32; 4], Denied> {

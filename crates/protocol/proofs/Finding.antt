@@ -10,7 +10,7 @@ use Rattle.std.proofs.shelf.Lists.{take-all, drop-more}
 use Rattle.std.proofs.shelf.Ways.{leb-tells}
 use Rattle.std.specs.declared.option.Option.{Option}
 use Rattle.std.specs.declared.option.Option.the-variants.{Some, None}
-use Rattle.protocol.specs.Search.{firstIn, windowOf, lowestFrom}
+use Rattle.protocol.specs.Finding.{firstIn, windowOf, lowestFrom}
 
 take-cut : {X : Type 0} (ys : List X) (m n : ℕ) → m ≡ min n (length ys) → take m ys ≡ take n ys
 take-cut ys m n e =

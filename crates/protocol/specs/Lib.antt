@@ -2,7 +2,7 @@ pub mod Numbers
 pub mod Limits
 pub mod Places
 pub mod Entries
-pub mod Search
+pub mod Finding
 pub mod Answers
 pub mod StateTable
 pub mod Lines

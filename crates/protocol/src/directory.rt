@@ -1,9 +1,9 @@
-// One search for both tables: the first entry of a window that is in use and whose key lies from a low to a high number.
+// One directory for both tables: the first entry of a window that is in use and whose key lies from a low to a high number.
 ghost use mathlib.Core.Path.{_≡_};
 ghost use mathlib.Core.Bool.{Bool};
 ghost use Prim.Native.Nat.{ℕ, _+_, _≤_, _<_};
 ghost use lib.ListN.{length};
-ghost use Rattle.protocol.specs.Search.{liesIn, firstIn, windowOf, Within};
+ghost use Rattle.protocol.specs.Finding.{liesIn, firstIn, windowOf, Within};
 
 pub trait Entry {
     ghost used: { Self → Bool };

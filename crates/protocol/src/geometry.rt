@@ -1,4 +1,4 @@
-// Measures within their limits. The limits are the struct's invariant, so that no call tests them again.
+// Measures within their limits. The limits are the struct's invariant, so that no call checks them again.
 ghost use mathlib.Core.Path.{_≡_};
 ghost use Prim.Native.Nat.{_≤_};
 ghost use lib.Count.{ones};

@@ -1,4 +1,4 @@
-// The published protocol: states, commands, geometry, cache lines, lock entries, the search and the state table.
+// The published protocol: states, commands, geometry, cache lines, lock entries, the directory and the state table.
 pub mod acting;
 pub mod answer;
 pub mod command;

@@ -1,4 +1,4 @@
-// A cache line, and the order in which the search sees it.
+// A cache line, and what the directory sees of it.
 ghost use mathlib.Core.Path.{_≡_};
 ghost use Rattle.protocol.specs.Entries.{valid};
 ghost use Rattle.protocol.specs.Lines.{inState};

@@ -1,4 +1,4 @@
-// An entry of the lock directory, and the order in which the search sees it.
+// An entry of the lock directory, and what the directory sees of it.
 ghost use Rattle.protocol.specs.Entries.{locked};
 use crate::directory::Entry;
 

@@ -14,7 +14,7 @@ pub struct Record {
 }
 
 // The little-endian number in the four bytes from `at` on.
-pub fn number_at(bytes: &[u8], at: usize) -> u32
+pub(crate) fn number_at(bytes: &[u8], at: usize) -> u32
     requires { ⌜ at + 4 ≤ length (now bytes) ⌝ }
 {
     u32::from_le_bytes([bytes[at], bytes[at + 1], bytes[at + 2], bytes[at + 3]])

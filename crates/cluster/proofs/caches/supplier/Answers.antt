@@ -10,38 +10,38 @@ use Rattle.protocol.proofs.Finding.{first-hit, first-miss, first-end, lowest-hi
 use Rattle.cluster.specs.Copies.{holdsBlock, lineOf, otherCopy}
 use Rattle.cluster.proofs.caches.supplier.Needs as need
 
-pub search-again-then-p-asking : need.search-again-then-p-asking
-search-again-then-p-asking c =
+pub caches-again-then-p-asking : need.caches-again-then-p-asking
+caches-again-then-p-asking c =
     let m = c .args .geometry .now .measures in
     let test = otherCopy m (c .args .lines .now) (c .args .asking) (c .args .block) in
-    let miss : test (c .search .p) ≡ false = grind (arith, tells) in
-    (c .search .inv .0, sym (lowest-miss test (c .search .p) (m .processors) (omega arith) miss) ∙ c .search .inv .1)
+    let miss : test (c .caches .p) ≡ false = grind (arith, tells) in
+    (c .caches .inv .0, sym (lowest-miss test (c .caches .p) (m .processors) (omega arith) miss) ∙ c .caches .inv .1)
 
 pub loop-i-again : need.loop-i-again
 loop-i-again c =
-    let p : c .search .p < c .args .geometry .now .measures .processors = omega arith in
+    let p : c .caches .p < c .args .geometry .now .measures .processors = omega arith in
     let end = c .window-start .result + c .ways-ways .result in
     let inside : end ≤ length (c .args .lines .now) = omega (arith, c .window-start .ensures .within p) in
     let step = first-miss (holdsBlock (c .args .block)) (c .args .lines .now) (c .loop-i .i) end _ (omega arith) inside (c .if-lies-in .ensures tt) in
     (c .loop-i .inv .0, sym step ∙ c .loop-i .inv .1)
 
-pub search-again : need.search-again
-search-again c =
+pub caches-again : need.caches-again
+caches-again c =
     let m = c .args .geometry .now .measures in
     let test = otherCopy m (c .args .lines .now) (c .args .asking) (c .args .block) in
-    let none : lineOf m (c .args .lines .now) (c .search .p) (c .args .block) ≡ None =
+    let none : lineOf m (c .args .lines .now) (c .caches .p) (c .args .block) ≡ None =
     sym (c .loop-i .inv .1) ∙ first-end (holdsBlock (c .args .block)) (c .args .lines .now) (c .loop-i .i) _ (c .loop-i-test .left) in
-    let miss : test (c .search .p) ≡ false = grind (arith, tells, none) in
-    (c .loop-i .inv .0, sym (lowest-miss test (c .search .p) (m .processors) (omega arith) miss) ∙ c .search .inv .1)
+    let miss : test (c .caches .p) ≡ false = grind (arith, tells, none) in
+    (c .loop-i .inv .0, sym (lowest-miss test (c .caches .p) (m .processors) (omega arith) miss) ∙ c .caches .inv .1)
 
 pub returns-then-lies-in : need.returns-then-lies-in
 returns-then-lies-in c =
     let m = c .args .geometry .now .measures in
     let test = otherCopy m (c .args .lines .now) (c .args .asking) (c .args .block) in
-    let p : c .search .p < m .processors = omega arith in
+    let p : c .caches .p < m .processors = omega arith in
     let end = c .window-start .result + c .ways-ways .result in
     let inside : end ≤ length (c .args .lines .now) = omega (arith, c .window-start .ensures .within p) in
     let here = first-hit (holdsBlock (c .args .block)) (c .args .lines .now) (c .loop-i .i) end _ (omega arith) inside (c .if-lies-in .ensures tt) in
-    let some : lineOf m (c .args .lines .now) (c .search .p) (c .args .block) ≡ Some (c .loop-i .i) = sym (c .loop-i .inv .1) ∙ here in
-    let hit : test (c .search .p) ≡ true = grind (arith, tells, some) in
-    sym (lowest-hit test (c .search .p) (m .processors) p hit) ∙ c .search .inv .1
+    let some : lineOf m (c .args .lines .now) (c .caches .p) (c .args .block) ≡ Some (c .loop-i .i) = sym (c .loop-i .inv .1) ∙ here in
+    let hit : test (c .caches .p) ≡ true = grind (arith, tells, some) in
+    sym (lowest-hit test (c .caches .p) (m .processors) p hit) ∙ c .caches .inv .1

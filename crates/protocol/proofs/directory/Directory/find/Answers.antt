@@ -2,7 +2,7 @@ use mathlib.Core.Path.{_∙_, sym, ap}
 use native.Mathlib.Omega.{arith}
 use borrow.Author.Needs.{needs}
 use Rattle.protocol.proofs.Finding.{window-cut, first-hit, first-miss}
-use Rattle.protocol.specs.Search.{liesIn, firstIn}
+use Rattle.protocol.specs.Finding.{liesIn, firstIn}
 use Rattle.protocol.proofs.directory.Directory.find.Needs as need
 
 pub loop-i-holds : need.loop-i-holds

@@ -1,7 +1,7 @@
 use mathlib.Core.Path.{_≡_}
 use Prim.Native.Nat.{_-_}
 use lib.ListN.{take, drop}
-use Rattle.protocol.specs.Search.{liesIn, firstIn, windowOf}
+use Rattle.protocol.specs.Finding.{liesIn, firstIn, windowOf}
 use Rattle.protocol.proofs.directory.Directory.find.Given as given
 
 abbrev pub Inv-loop-i : given.InvT-loop-i

@@ -1,4 +1,4 @@
--- The search that serves both tables.
+-- Finding an entry, in both tables.
 use Prim.Native.Nat.{ℕ, zero, suc, _+_, _<_, _≤_}
 use mathlib.Core.Bool.{Bool, cond, _&&_}
 use mathlib.Core.List.{List, [], _∷_}
