@@ -5,6 +5,7 @@ use mathlib.Core.Bool.{Bool, cond, _&&_}
 use mathlib.Core.List.{List}
 use lib.Dec.{eqb, ltb}
 use lib.ListN.{length}
+use Rattle.std.specs.declared.option.Option.{Option}
 use Rattle.std.specs.declared.result.Result.{Result}
 use Rattle.std.specs.declared.result.Result.the-variants.{Ok, Err}
 use Rattle.memory.specs.declared.memory.Denied.{Denied}
@@ -18,9 +19,12 @@ pub record Lawful (m : Mem) : Type 0 where
   pub bounded : m .count ≤ 1048576
   pub four : (block : ℕ) → length (m .words block) ≡ 4
 
--- the loans that a memory stands on, by the names under which the checker follows them
+-- what no call changes beside the meaning: the loans that a memory stands on, by the names under which the checker
+-- follows them, and the dead lists
 pub data Standing : Type 0 where
   loan : ℕ → Standing
+  both : Standing → Standing → Standing
+  behind : List (Option ℕ) → Standing → Standing
 
 -- reads and writes of a live block below the number are granted, and no others
 abbrev pub grants : Mem → ℕ → Bool

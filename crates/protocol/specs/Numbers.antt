@@ -1,10 +1,11 @@
 -- The number that is returned for each refusal.
 use Prim.Native.Nat.{ℕ}
 use Rattle.protocol.specs.declared.refusal.Refusal.{Refusal}
-use Rattle.protocol.specs.declared.refusal.Refusal.the-variants.{Geometry, TableLength, Processor, Address, Waiting, LockHeld, NoLockEntry, NoLock, CopyElsewhere, MachineCheck, Memory, Trailer, Record}
+use Rattle.protocol.specs.declared.refusal.Refusal.the-variants.{Geometry, DeadList, TableLength, Processor, Address, Waiting, LockHeld, NoLockEntry, NoLock, CopyElsewhere, MachineCheck, Memory, Trailer, Record}
 
 abbrev pub numberOf : Refusal → ℕ
 numberOf Geometry = 1
+numberOf DeadList = 1
 numberOf TableLength = 2
 numberOf Processor = 3
 numberOf Address = 4

@@ -13,6 +13,7 @@ pub enum Direction {
 #[derive(Clone, Copy)]
 pub enum Refusal {
     Geometry,
+    DeadList,
     TableLength,
     Processor,
     Address,
@@ -33,6 +34,7 @@ impl Refusal {
     {
         match self {
             Refusal::Geometry => 1,
+            Refusal::DeadList => 1,
             Refusal::TableLength => 2,
             Refusal::Processor => 3,
             Refusal::Address => 4,
