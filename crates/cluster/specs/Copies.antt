@@ -3,11 +3,14 @@ use Prim.Native.Nat.{ℕ}
 use mathlib.Core.Bool.{Bool, not, _&&_}
 use mathlib.Core.List.{List}
 use lib.Dec.{eqb}
+use lib.ListN.{getD}
 use Rattle.std.specs.Options.{isSome}
 use Rattle.std.specs.declared.option.Option.{Option}
+use Rattle.std.specs.declared.option.Option.the-variants.{Some, None}
 use Rattle.protocol.specs.declared.measures.Measures.{Measures}
 use Rattle.protocol.specs.declared.line.Line.{Line}
 use Rattle.protocol.specs.Entries.{valid}
+use Rattle.protocol.specs.Lines.{blankLine, noLine}
 use Rattle.protocol.specs.Places.{windowStart}
 use Rattle.protocol.specs.Finding.{liesIn, firstIn, windowOf, lowestFrom}
 
@@ -18,6 +21,11 @@ holdsBlock block = liesIn (λ l. valid (l .state)) (λ l. l .block) block block
 abbrev pub lineOf : Measures → List Line → ℕ → ℕ → Option ℕ
 lineOf m lines processor block =
     let start = windowStart m processor block in firstIn (holdsBlock block) start (windowOf start (m .ways) lines)
+
+-- the line at a place, or a blank one
+abbrev pub lineAt : List Line → Option ℕ → Line
+lineAt lines None = blankLine
+lineAt lines (Some place) = getD lines place noLine
 
 abbrev pub hasCopy : Measures → List Line → ℕ → ℕ → Bool
 hasCopy m lines block processor = isSome (lineOf m lines processor block)

@@ -1,4 +1,8 @@
-pub mod Making
-pub mod Copies
 pub mod Cases
+pub mod Copies
+pub mod Locks
+pub mod Making
+pub mod Snooping
+pub mod Tables
 pub mod Waiting
+pub mod Ways

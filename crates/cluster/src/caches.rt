@@ -4,7 +4,7 @@ ghost use Prim.Native.Nat.{_<_};
 ghost use lib.ListN.{length};
 ghost use Rattle.std.specs.Slices.{found};
 ghost use Rattle.protocol.specs.Places.{lineCount};
-ghost use Rattle.cluster.specs.Copies.{lineOf, supplierOf};
+ghost use Rattle.cluster.specs.Copies.{lineOf, lineAt, supplierOf};
 use protocol::directory::Directory;
 use protocol::directory::Entry;
 use protocol::geometry::Geometry;
@@ -54,6 +54,7 @@ pub(crate) fn supplier(geometry: &Geometry, lines: &[Line], asking: u8, block: u
 // The line at a place, or a blank one where no line was found.
 pub(crate) fn line_at(lines: &[Line], place: Option<usize>) -> Line
     requires { ⌜ found place (λ i. i < length (now lines)) ⌝ }
+    ensures { λ r. ⌜ r ≡ lineAt (now (lines .entry)) place ⌝ }
 {
     match place {
         Some(i) => lines[i],

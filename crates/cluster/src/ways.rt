@@ -3,7 +3,8 @@ ghost use mathlib.Core.Path.{_≡_};
 ghost use Prim.Native.Nat.{_<_};
 ghost use lib.ListN.{length};
 ghost use Rattle.protocol.specs.Places.{lineCount};
-use protocol::directory::Entry;
+ghost use Rattle.cluster.specs.Ways.{takenWay};
+use protocol::directory::Directory;
 use protocol::geometry::Geometry;
 use protocol::line::Line;
 use protocol::line::LineEntry;
@@ -25,20 +26,13 @@ pub(crate) fn take_way(
 ) -> Taken
     requires rows { ⌜ length (now lines) ≡ lineCount (now geometry .measures) ⌝ }
     requires known { ⌜ processor < now geometry .measures .processors ⌝ }
+    ensures value { λ r. ⌜ r ≡ takenWay (now (geometry .entry) .measures) (now (lines .entry)) processor block turn ⌝ }
     ensures within { λ r. ⌜ r .place < length (now (lines .entry)) ⌝ }
 {
     let start = geometry.window(processor, block);
     let ways = geometry.ways();
-    for i in start..start + ways {
-        if !lines[i].in_use() {
-            return Taken {
-                place: i,
-                by_turn: false,
-            };
-        }
-    }
-    Taken {
-        place: start + turn % ways,
-        by_turn: true,
+    match Directory::new(lines).free(start, ways) {
+        Some(free) => Taken { place: free, by_turn: false },
+        None => Taken { place: start + turn % ways, by_turn: true },
     }
 }

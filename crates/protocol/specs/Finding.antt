@@ -1,6 +1,6 @@
 -- Finding an entry, in both tables.
 use Prim.Native.Nat.{ℕ, zero, suc, _+_, _<_, _≤_}
-use mathlib.Core.Bool.{Bool, cond, _&&_}
+use mathlib.Core.Bool.{Bool, cond, not, _&&_}
 use mathlib.Core.List.{List, [], _∷_}
 use lib.Dec.{leb}
 use lib.ListN.{length, take, drop}
@@ -11,6 +11,9 @@ use Rattle.std.specs.declared.option.Option.the-variants.{Some, None}
 -- in use, with a key from low to high
 abbrev pub liesIn : {X : Type 0} → (X → Bool) → (X → ℕ) → ℕ → ℕ → X → Bool
 liesIn used label low high x = used x && leb low (label x) && leb (label x) high
+
+abbrev pub unused : {X : Type 0} → (X → Bool) → X → Bool
+unused used x = not (used x)
 
 -- the place of the first that passes the test, counted from `at`
 abbrev pub firstIn : {X : Type 0} → (X → Bool) → ℕ → List X → Option ℕ

@@ -3,7 +3,7 @@ ghost use mathlib.Core.Path.{_≡_};
 ghost use mathlib.Core.Bool.{Bool};
 ghost use Prim.Native.Nat.{ℕ, _+_, _≤_, _<_};
 ghost use lib.ListN.{length};
-ghost use Rattle.protocol.specs.Finding.{liesIn, firstIn, windowOf, Within};
+ghost use Rattle.protocol.specs.Finding.{liesIn, unused, firstIn, windowOf, Within};
 
 pub trait Entry {
     ghost used: { Self → Bool };
@@ -43,6 +43,20 @@ impl<'a, E: Entry> Directory<'a, E> {
         let end = self.entries.len().min(from.saturating_add(count));
         for i in from..end {
             if self.entries[i].lies_in(low, high) {
+                return Some(i);
+            }
+        }
+        None
+    }
+
+    // The first entry of the window that is not in use.
+    pub fn free(self, from: usize, count: usize) -> Option<usize>
+        ensures value { λ r. ⌜ r ≡ firstIn (unused used) from (windowOf from count (now (self .entry .entries))) ⌝ }
+        ensures within { λ r. ⌜ Within from count (now (self .entry .entries)) r ⌝ }
+    {
+        let end = self.entries.len().min(from.saturating_add(count));
+        for i in from..end {
+            if !self.entries[i].in_use() {
                 return Some(i);
             }
         }
