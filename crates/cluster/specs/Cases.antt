@@ -1,5 +1,6 @@
 -- The places that a command's case names lie in the tables.
 use Prim.Native.Nat.{ℕ, _<_}
+use mathlib.Core.Bool.{Bool, false}
 use Rattle.std.specs.Slices.{found}
 use Rattle.protocol.specs.declared.measures.Measures.{Measures}
 use Rattle.std.specs.declared.option.Option.{Option}
@@ -17,3 +18,7 @@ pub record Sound (m : Measures) (lines locks : ℕ) (c : Case) : Type 0 where
 abbrev pub ownPlace : Option ℕ → Option Taken → Option ℕ
 ownPlace place None = place
 ownPlace place (Some way) = Some (way .place)
+
+abbrev pub byTurn : Option Taken → Bool
+byTurn None = false
+byTurn (Some way) = way .«by_turn»

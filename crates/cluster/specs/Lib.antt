@@ -6,3 +6,5 @@ pub mod Snooping
 pub mod Tables
 pub mod Waiting
 pub mod Ways
+pub mod Settling
+pub mod Doing

@@ -6,6 +6,8 @@ ghost use Rattle.std.specs.Slices.{found};
 ghost use Rattle.std.specs.Vec.{made};
 ghost use Rattle.protocol.specs.Places.{lineCount};
 ghost use Rattle.cluster.specs.Cases.{Sound};
+ghost use Rattle.cluster.specs.Doing.{asksForBlock, lockHit, takesWay};
+ghost use Rattle.cluster.specs.Settling.{takesLock, releasesLock};
 ghost use Rattle.cluster.specs.Waiting.{Ready};
 use crate::caches::line_at;
 use crate::caches::line_of;
@@ -45,18 +47,46 @@ pub struct Case {
     pub entry: Option<usize>,
 }
 
+pub(crate) fn takes_lock(command: Command) -> bool
+    ensures { λ r. ⌜ r ≡ takesLock command ⌝ }
+{
+    match command {
+        Command::LR => true,
+        _ => false,
+    }
+}
+
+fn releases_lock(command: Command) -> bool
+    ensures { λ r. ⌜ r ≡ releasesLock command ⌝ }
+{
+    match command {
+        Command::U | Command::UW(_) => true,
+        _ => false,
+    }
+}
+
+// F and FI ask for the block.
+pub(crate) fn asks_for_block(bus: Option<BusCommand>) -> bool
+    ensures { λ r. ⌜ r ≡ asksForBlock bus ⌝ }
+{
+    match bus {
+        Some(BusCommand::F) | Some(BusCommand::FI) => true,
+        _ => false,
+    }
+}
+
 impl Case {
     // The cell sends F, FI or LK, and another processor has a lock in the block.
-    pub(crate) fn lock_hit(&self) -> Option<u8> {
-        match self.effect.bus {
-            Some(BusCommand::F) | Some(BusCommand::FI) => self.holder,
-            _ if self.effect.lk => self.holder,
-            _ => None,
-        }
+    pub(crate) fn lock_hit(&self) -> Option<u8>
+        ensures { λ r. ⌜ r ≡ lockHit (now (self .entry)) ⌝ }
+    {
+        if self.effect.lk || asks_for_block(self.effect.bus) { self.holder } else { None }
     }
 
     // Every command that found I takes a way, except U.
-    pub(crate) fn takes_way(&self) -> bool {
+    pub(crate) fn takes_way(&self) -> bool
+        ensures { λ r. ⌜ r ≡ takesWay (now (self .entry)) ⌝ }
+    {
         match self.action {
             Action::U => false,
             _ => !self.found.is_valid(),

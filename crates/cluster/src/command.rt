@@ -9,13 +9,18 @@ ghost use Rattle.std.specs.declared.result.Result.the-variants.{Ok, Err};
 ghost use Rattle.protocol.specs.Answers.{cyclesIn};
 ghost use Rattle.protocol.specs.Limits.{LowCosts};
 ghost use Rattle.protocol.specs.Places.{lineCount};
-ghost use Rattle.cluster.specs.Cases.{Sound, ownPlace};
+ghost use Rattle.cluster.specs.Cases.{Sound, ownPlace, byTurn};
+ghost use Rattle.cluster.specs.Doing.{suppliedBy, supplied, stateLeft, victimOf, swappedOut, memoryAfter, supplyCost, invalidates, cyclesFor};
 ghost use Rattle.cluster.specs.Making.{resting, tablesFit};
-ghost use Rattle.cluster.specs.Waiting.{waitingFor, WaitsMore};
+ghost use Rattle.cluster.specs.Settling.{ulSent, locksSettled, wokenBy};
+ghost use Rattle.cluster.specs.Waiting.{woken, allWoken, turnRaised, waitingFor, WaitsMore};
 use crate::caches::line_at;
 use crate::caches::line_of;
 use crate::case::Case;
+use crate::case::asks_for_block;
+use crate::case::takes_lock;
 use crate::cluster::Cluster;
+use crate::cluster::Processor;
 use crate::locks::mark_waited;
 use crate::locks::release;
 use crate::snooping::snoop_others;
@@ -47,6 +52,28 @@ struct Supply {
     from: Option<Supplier>,
 }
 
+// The block as another cache or memory has it.
+fn supply_from<M: Memory>(
+    geometry: &Geometry,
+    lines: &[Line],
+    memory: &M,
+    block: u32,
+    copy: Option<u8>,
+) -> Result<Supply, Refusal>
+    ensures { λ r. ⌜ r ≡ suppliedBy (now (geometry .entry) .measures) (now (lines .entry)) (M·Memory .model (now (memory .entry))) block copy ⌝ }
+{
+    match copy {
+        Some(q) => {
+            let words = line_at(lines, line_of(geometry, lines, q, block)).words;
+            Ok(Supply { words, from: Some(Supplier::Cache(q)) })
+        }
+        None => match memory.read(block) {
+            Ok(words) => Ok(Supply { words, from: Some(Supplier::Memory) }),
+            Err(_) => Err(Refusal::Memory(block, Direction::Read)),
+        },
+    }
+}
+
 fn fetch<M: Memory>(
     geometry: &Geometry,
     lines: &[Line],
@@ -54,56 +81,67 @@ fn fetch<M: Memory>(
     case: &Case,
 ) -> Result<Supply, Refusal>
     requires { ⌜ found (now case .place) (λ i. i < length (now lines)) ⌝ }
+    ensures { λ r. ⌜ r ≡ supplied (now (geometry .entry) .measures) (now (lines .entry)) (M·Memory .model (now (memory .entry))) (now (case .entry)) ⌝ }
 {
-    match case.effect.bus {
-        Some(BusCommand::F) | Some(BusCommand::FI) => match case.copy {
-            Some(q) => {
-                let words = line_at(lines, line_of(geometry, lines, q, case.block)).words;
-                Ok(Supply {
-                    words,
-                    from: Some(Supplier::Cache(q)),
-                })
-            }
-            None => match memory.read(case.block) {
-                Ok(words) => Ok(Supply {
-                    words,
-                    from: Some(Supplier::Memory),
-                }),
-                Err(_) => Err(Refusal::Memory(case.block, Direction::Read)),
-            },
-        },
-        _ => {
-            let words = line_at(lines, case.place).words;
-            Ok(Supply { words, from: None })
-        }
+    if asks_for_block(case.effect.bus) {
+        return supply_from(geometry, lines, memory, case.block, case.copy);
     }
+    let words = line_at(lines, case.place).words;
+    Ok(Supply { words, from: None })
 }
 
-// The block that a taken way gives back to memory, if it was modified there.
-fn swap_out<M: Memory>(
-    lines: &[Line],
-    memory: &mut M,
-    taken: Option<Taken>,
-) -> Result<Option<u32>, Refusal>
+// The line in the way taken, if memory has to be given its block.
+fn victim(lines: &[Line], taken: Option<Taken>) -> Option<Line>
     requires { ⌜ found taken (λ t. t .place < length (now lines)) ⌝ }
+    ensures { λ r. ⌜ r ≡ victimOf (now (lines .entry)) taken ⌝ }
 {
     let Some(way) = taken else {
-        return Ok(None);
+        return None;
     };
     let old = lines[way.place];
-    if !old.state.is_modified() {
+    if old.state.is_modified() { Some(old) } else { None }
+}
+
+// Writes the victim's block to memory.
+fn swap_out<M: Memory>(memory: &mut M, victim: Option<Line>) -> Result<Option<u32>, Refusal>
+    ensures answer { λ r. ⌜ r ≡ swappedOut (M·Memory .model (now (memory .entry))) victim ⌝ }
+    ensures after { λ r. ⌜ M·Memory .model (now (memory .exit)) ≡ memoryAfter (M·Memory .model (now (memory .entry))) victim ⌝ }
+    ensures kept { λ r. ⌜ M·Memory .standing (now (memory .exit)) ≡ M·Memory .standing (now (memory .entry)) ⌝ }
+{
+    let Some(line) = victim else {
         return Ok(None);
-    }
-    match memory.write(old.block, old.words) {
-        Ok(()) => Ok(Some(old.block)),
-        Err(_) => Err(Refusal::Memory(old.block, Direction::Write)),
+    };
+    match memory.write(line.block, line.words) {
+        Ok(()) => Ok(Some(line.block)),
+        Err(_) => Err(Refusal::Memory(line.block, Direction::Write)),
     }
 }
 
-fn state_left(case: &Case, from: Option<Supplier>) -> State {
+fn state_left(case: &Case, from: Option<Supplier>) -> State
+    ensures { λ r. ⌜ r ≡ stateLeft (now (case .entry) .effect) from ⌝ }
+{
     match from {
         Some(Supplier::Cache(_)) => case.effect.from_cache,
         _ => case.effect.from_memory,
+    }
+}
+
+fn supply_cost(costs: &Costs, from: Option<Supplier>) -> u32
+    ensures { λ r. ⌜ r ≡ supplyCost (now (costs .entry)) from ⌝ }
+{
+    match from {
+        Some(Supplier::Cache(_)) => costs.transfer,
+        Some(Supplier::Memory) => costs.swap_in,
+        None => 0,
+    }
+}
+
+fn is_invalidation(bus: Option<BusCommand>) -> bool
+    ensures { λ r. ⌜ r ≡ invalidates bus ⌝ }
+{
+    match bus {
+        Some(BusCommand::I) => true,
+        _ => false,
     }
 }
 
@@ -116,20 +154,13 @@ fn cycles(
     ul: bool,
 ) -> u32
     requires { ⌜ LowCosts (now costs) ⌝ }
+    ensures value { λ r. ⌜ r ≡ cyclesFor (now (costs .entry)) from bus swapped ul ⌝ }
     ensures bound { λ r. ⌜ r ≤ 4000 ⌝ }
 {
-    let supply = match from {
-        Some(Supplier::Cache(_)) => costs.transfer,
-        Some(Supplier::Memory) => costs.swap_in,
-        None => 0,
-    };
-    let invalidation = match bus {
-        Some(BusCommand::I) => costs.invalidation,
-        _ => 0,
-    };
     let swap_out = if swapped { costs.swap_out } else { 0 };
+    let invalidation = if is_invalidation(bus) { costs.invalidation } else { 0 };
     let signal = if ul { costs.lock_signal } else { 0 };
-    swap_out + supply + invalidation + signal
+    swap_out + supply_cost(costs, from) + invalidation + signal
 }
 
 // Where the own line stands after the command: in the way taken, else where it was found.
@@ -142,10 +173,22 @@ fn own_place(case: &Case, taken: Option<Taken>) -> Option<usize>
     }
 }
 
-fn chosen_by_turn(taken: Option<Taken>) -> bool {
+fn chosen_by_turn(taken: Option<Taken>) -> bool
+    ensures { λ r. ⌜ r ≡ byTurn taken ⌝ }
+{
     match taken {
         Some(way) => way.by_turn,
         None => false,
+    }
+}
+
+// A processor that waits for the block stops waiting.
+fn awake(processor: Processor, block: u32) -> Processor
+    ensures { λ r. ⌜ r ≡ woken block processor ⌝ }
+{
+    match processor.waits_for {
+        Some(awaited) if awaited == block => Processor { turn: processor.turn, waits_for: None },
+        _ => processor,
     }
 }
 
@@ -180,30 +223,35 @@ impl Cluster {
 
     fn raise_turn(&mut self, processor: u8)
         requires { ⌜ processor < now self .geometry .measures .processors ⌝ }
+        ensures processors { λ _. ⌜ now (self .exit) .processors ≡ turnRaised (now (self .entry) .geometry .measures .ways) (now (self .entry) .processors) processor ⌝ }
+        ensures geometry { λ _. ⌜ now (self .exit) .geometry ≡ now (self .entry) .geometry ⌝ }
     {
         let ways = self.geometry.ways();
         let turn = self.processors[processor as usize].turn % ways;
         self.processors[processor as usize].turn = (turn + 1) % ways;
     }
 
-    fn wake(&mut self, block: u32) {
+    fn wake(&mut self, block: u32)
+        ensures processors { λ _. ⌜ now (self .exit) .processors ≡ allWoken block (now (self .entry) .processors) ⌝ }
+        ensures geometry { λ _. ⌜ now (self .exit) .geometry ≡ now (self .entry) .geometry ⌝ }
+    {
         for p in 0..8 {
-            if let Some(awaited) = self.processors[p].waits_for {
-                if awaited == block {
-                    self.processors[p].waits_for = None;
-                }
-            }
+            self.processors[p] = awake(self.processors[p], block);
         }
     }
 
     // LR takes its entry; U and UW empty theirs and wake who waits. Whether UL is sent.
     fn settle_locks(&mut self, locks: &mut [LockEntry], case: &Case) -> bool
         requires { ⌜ found (now case .entry) (λ i. i < length (now locks)) ⌝ }
+        ensures ul { λ r. ⌜ r ≡ ulSent (now (case .entry) .command) (now (locks .entry)) (now (case .entry) .entry) ⌝ }
+        ensures locks { λ _. ⌜ now (locks .exit) ≡ locksSettled (now (case .entry) .command) (now (case .entry) .address) (now (locks .entry)) (now (case .entry) .entry) ⌝ }
+        ensures processors { λ r. ⌜ now (self .exit) .processors ≡ wokenBy r (now (case .entry) .block) (now (self .entry) .processors) ⌝ }
+        ensures geometry { λ _. ⌜ now (self .exit) .geometry ≡ now (self .entry) .geometry ⌝ }
     {
         let Some(i) = case.entry else {
             return false;
         };
-        if let Command::LR = case.command {
+        if takes_lock(case.command) {
             locks[i] = LockEntry {
                 state: LockState::L,
                 address: case.address,
@@ -298,7 +346,7 @@ impl Cluster {
         }
         let supply = fetch(&self.geometry, lines, memory, &case)?;
         let taken = self.taken(lines, &case);
-        let swapped_out = swap_out(lines, memory, taken)?;
+        let swapped_out = swap_out(memory, victim(lines, taken))?;
         Ok(Answer::Done(self.finish(lines, locks, &case, supply, taken, swapped_out)))
     }
 }
