@@ -11,6 +11,8 @@ ghost use Rattle.protocol.specs.Limits.{LowCosts};
 ghost use Rattle.protocol.specs.Places.{lineCount};
 ghost use Rattle.cluster.specs.Cases.{Sound, ownPlace, byTurn};
 ghost use Rattle.cluster.specs.Doing.{suppliedBy, supplied, stateLeft, victimOf, swappedOut, memoryAfter, supplyCost, invalidates, cyclesFor};
+ghost use Rattle.cluster.specs.Finishing.{wayTaken, busSeen, placed, copyLeft, linesAfter, turnsAfter, processorsAfter, completed};
+ghost use Rattle.cluster.specs.Locks.{waitedFor};
 ghost use Rattle.cluster.specs.Making.{resting, tablesFit};
 ghost use Rattle.cluster.specs.Settling.{ulSent, locksSettled, wokenBy};
 ghost use Rattle.cluster.specs.Waiting.{woken, allWoken, turnRaised, waitingFor, WaitsMore};
@@ -197,7 +199,9 @@ impl Cluster {
     fn wait(&mut self, locks: &mut [LockEntry], case: &Case, holder: u8) -> LockHit
         requires known { ⌜ now case .processor < now self .geometry .measures .processors ⌝ }
         requires block { ⌜ now case .block < 1073741824 ⌝ }
-        ensures answer { λ r. ⌜ r .cycles ≡ now (self .entry) .geometry .measures .costs .«lock_signal» ⌝ }
+        ensures answer { λ r. ⌜ r ≡ record { holder = holder; found = now (case .entry) .found; cycles = now (self .entry) .geometry .measures .costs .«lock_signal» } ⌝ }
+        ensures locks { λ _. ⌜ now (locks .exit) ≡ waitedFor (now (self .entry) .geometry .measures) (now (locks .entry)) (now (case .entry) .processor) (now (case .entry) .block) ⌝ }
+        ensures geometry { λ _. ⌜ now (self .exit) .geometry ≡ now (self .entry) .geometry ⌝ }
         ensures processors { λ _. ⌜ now (self .exit) .processors ≡ set (now (self .entry) .processors) (now (case .entry) .processor) (waitingFor (getD (now (self .entry) .processors) (now (case .entry) .processor) resting) (now (case .entry) .block)) ⌝ }
     {
         mark_waited(&self.geometry, locks, case.processor, case.block);
@@ -212,6 +216,7 @@ impl Cluster {
     fn taken(&self, lines: &[Line], case: &Case) -> Option<Taken>
         requires rows { ⌜ length (now lines) ≡ lineCount (now self .geometry .measures) ⌝ }
         requires known { ⌜ now case .processor < now self .geometry .measures .processors ⌝ }
+        ensures value { λ r. ⌜ r ≡ wayTaken (now (self .entry) .geometry .measures) (now (self .entry) .processors) (now (lines .entry)) (now (case .entry)) ⌝ }
         ensures within { λ r. ⌜ found r (λ t. t .place < length (now (lines .entry))) ⌝ }
     {
         if !case.takes_way() {
@@ -266,7 +271,46 @@ impl Cluster {
     }
 }
 
+// The other caches see the bus command, if one is sent.
+fn see_bus(geometry: &Geometry, lines: &mut [Line], case: &Case)
+    ensures { λ _. ⌜ now (lines .exit) ≡ busSeen (now (geometry .entry) .measures) (now (case .entry) .effect .bus) (now (case .entry) .processor) (now (case .entry) .block) (now (lines .entry)) ⌝ }
+{
+    if let Some(bus) = case.effect.bus {
+        snoop_others(geometry, lines, case.processor, case.block, bus);
+    }
+}
+
+// The own copy after the command.
+fn copy_left(case: &Case, supply: Supply) -> Line
+    ensures { λ r. ⌜ r ≡ copyLeft (now (case .entry)) supply ⌝ }
+{
+    let left = state_left(case, supply.from);
+    let words = words_left(case.command, case.address, supply.words);
+    let copy = Line { state: left, block: case.block, words };
+    copy.with_state(left)
+}
+
+fn place_copy(lines: &mut [Line], place: Option<usize>, copy: Line)
+    requires { ⌜ found place (λ i. i < length (now lines)) ⌝ }
+    ensures { λ _. ⌜ now (lines .exit) ≡ placed place copy (now (lines .entry)) ⌝ }
+{
+    if let Some(i) = place {
+        lines[i] = copy;
+    }
+}
+
 impl Cluster {
+    // The turn goes on only where it chose the way.
+    fn pass_turn(&mut self, case: &Case, taken: Option<Taken>)
+        requires { ⌜ now case .processor < now self .geometry .measures .processors ⌝ }
+        ensures processors { λ _. ⌜ now (self .exit) .processors ≡ turnsAfter (now (self .entry) .geometry .measures) (now (self .entry) .processors) (now (case .entry)) taken ⌝ }
+        ensures geometry { λ _. ⌜ now (self .exit) .geometry ≡ now (self .entry) .geometry ⌝ }
+    {
+        if chosen_by_turn(taken) {
+            self.raise_turn(case.processor);
+        }
+    }
+
     // The tables after a command that is not refused and does not wait.
     fn finish(
         &mut self,
@@ -279,30 +323,23 @@ impl Cluster {
     ) -> Completion
         requires sound { ⌜ Sound (now self .geometry .measures) (length (now lines)) (length (now locks)) (now case) ⌝ }
         requires way { ⌜ found taken (λ t. t .place < length (now lines)) ⌝ }
+        ensures answer { λ r. ⌜ r ≡ completed (now (self .entry) .geometry .measures) (now (locks .entry)) (now (case .entry)) supply «swapped_out» ⌝ }
+        ensures lines { λ _. ⌜ now (lines .exit) ≡ linesAfter (now (self .entry) .geometry .measures) (now (lines .entry)) (now (case .entry)) supply taken ⌝ }
+        ensures locks { λ _. ⌜ now (locks .exit) ≡ locksSettled (now (case .entry) .command) (now (case .entry) .address) (now (locks .entry)) (now (case .entry) .entry) ⌝ }
+        ensures processors { λ _. ⌜ now (self .exit) .processors ≡ processorsAfter (now (self .entry) .geometry .measures) (now (self .entry) .processors) (now (locks .entry)) (now (case .entry)) taken ⌝ }
+        ensures geometry { λ _. ⌜ now (self .exit) .geometry ≡ now (self .entry) .geometry ⌝ }
         ensures bound { λ r. ⌜ r .cycles ≤ 4000 ⌝ }
     {
         let words = supply.words;
-        let left = state_left(case, supply.from);
-        if let Some(bus) = case.effect.bus {
-            snoop_others(&self.geometry, lines, case.processor, case.block, bus);
-        }
-        if let Some(i) = own_place(case, taken) {
-            let copy = Line {
-                state: left,
-                block: case.block,
-                words: words_left(case.command, case.address, words),
-            };
-            lines[i] = copy.with_state(left);
-        }
-        if chosen_by_turn(taken) {
-            self.raise_turn(case.processor);
-        }
+        see_bus(&self.geometry, lines, case);
+        place_copy(lines, own_place(case, taken), copy_left(case, supply));
+        self.pass_turn(case, taken);
         let ul = self.settle_locks(locks, case);
         let costs = self.geometry.costs();
         Completion {
             word: word_answered(case.command, case.address, words),
             found: case.found,
-            left,
+            left: state_left(case, supply.from),
             bus: case.effect.bus,
             lk: case.effect.lk,
             ul,
