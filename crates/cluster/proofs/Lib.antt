@@ -1,2 +1,3 @@
 pub mod Mapping
+pub mod Swaps
 pub mod Waits

@@ -68,5 +68,5 @@ completed m locks c s swapped =
       ul = ul;
       supplier = s .from;
       «swapped_out» = swapped;
-      cycles = cyclesFor (m .costs) (s .from) (c .effect .bus) (isSome swapped) ul
+      cycles = cyclesFor (m .costs) (s .from) (c .effect .bus) (isSome swapped) ul;
     }

@@ -9,3 +9,5 @@ pub mod Ways
 pub mod Settling
 pub mod Doing
 pub mod Finishing
+pub mod Refusing
+pub mod Rule

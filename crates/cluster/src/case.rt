@@ -4,9 +4,11 @@ ghost use Prim.Native.Nat.{_<_};
 ghost use lib.ListN.{length};
 ghost use Rattle.std.specs.Slices.{found};
 ghost use Rattle.std.specs.Vec.{made};
+ghost use Rattle.std.specs.declared.result.Result.the-variants.{Ok};
 ghost use Rattle.protocol.specs.Places.{lineCount};
 ghost use Rattle.cluster.specs.Cases.{Sound};
 ghost use Rattle.cluster.specs.Doing.{asksForBlock, lockHit, takesWay};
+ghost use Rattle.cluster.specs.Refusing.{unlessRefused, isDirectWrite, admission, lockTests, entryUsed, caseMet, caseOf};
 ghost use Rattle.cluster.specs.Settling.{takesLock, releasesLock};
 ghost use Rattle.cluster.specs.Waiting.{Ready};
 use crate::caches::line_at;
@@ -80,7 +82,11 @@ impl Case {
     pub(crate) fn lock_hit(&self) -> Option<u8>
         ensures { λ r. ⌜ r ≡ lockHit (now (self .entry)) ⌝ }
     {
-        if self.effect.lk || asks_for_block(self.effect.bus) { self.holder } else { None }
+        if self.effect.lk || asks_for_block(self.effect.bus) {
+            self.holder
+        } else {
+            None
+        }
     }
 
     // Every command that found I takes a way, except U.
@@ -94,32 +100,46 @@ impl Case {
     }
 }
 
+fn is_direct_write(action: Action) -> bool
+    ensures { λ r. ⌜ r ≡ isDirectWrite action ⌝ }
+{
+    match action {
+        Action::DW => true,
+        _ => false,
+    }
+}
+
 impl Cluster {
     // The lock entry that the command writes or empties: refusals 6, 7 and 8.
     fn entry_for(&self, locks: &[LockEntry], request: Request) -> Result<Option<usize>, Refusal>
+        ensures value { λ r. ⌜ r ≡ unlessRefused (lockTests (now (self .entry) .geometry .measures) (now (locks .entry)) request) (Ok (entryUsed (now (self .entry) .geometry .measures) (now (locks .entry)) request)) ⌝ }
         ensures within { λ r. ⌜ made r (λ e. found e (λ i. i < length (now (locks .entry)))) ⌝ }
     {
         let held = held_entry(&self.geometry, locks, request.processor, request.address);
-        match request.command {
-            Command::LR => {
-                if held.is_some() {
-                    return Err(Refusal::LockHeld);
-                }
-                match free_entry(&self.geometry, locks, request.processor) {
-                    Some(i) => Ok(Some(i)),
-                    None => Err(Refusal::NoLockEntry),
-                }
+        if takes_lock(request.command) {
+            if held.is_some() {
+                return Err(Refusal::LockHeld);
             }
-            Command::U | Command::UW(_) => match held {
-                Some(i) => Ok(Some(i)),
-                None => Err(Refusal::NoLock),
-            },
-            _ => Ok(None),
+            let free = free_entry(&self.geometry, locks, request.processor);
+            return if free.is_some() {
+                Ok(free)
+            } else {
+                Err(Refusal::NoLockEntry)
+            };
+        }
+        if !releases_lock(request.command) {
+            return Ok(None);
+        }
+        if held.is_some() {
+            Ok(held)
+        } else {
+            Err(Refusal::NoLock)
         }
     }
 
     // Refusals 3, 4 and 5.
     fn admit(&self, blocks: u32, request: Request) -> Result<(), Refusal>
+        ensures value { λ r. ⌜ r ≡ unlessRefused (admission (now (self .entry) .geometry .measures) (now (self .entry) .processors) blocks request) (Ok tt) ⌝ }
         ensures known { λ r. ⌜ made r (λ _. request .processor < now (self .entry) .geometry .measures .processors) ⌝ }
         ensures ready { λ r. ⌜ made r (λ _. Ready (now (self .entry) .processors) (request .processor)) ⌝ }
     {
@@ -136,29 +156,29 @@ impl Cluster {
         }
     }
 
-    pub(crate) fn case_of(
+    // Refusals 9 and 10.
+    fn case_met(
         &self,
         lines: &[Line],
         locks: &[LockEntry],
-        blocks: u32,
         request: Request,
+        entry: Option<usize>,
     ) -> Result<Case, Refusal>
-        requires { ⌜ length (now lines) ≡ lineCount (now self .geometry .measures) ⌝ }
+        requires rows { ⌜ length (now lines) ≡ lineCount (now self .geometry .measures) ⌝ }
+        requires known { ⌜ request .processor < now self .geometry .measures .processors ⌝ }
+        requires entry { ⌜ found entry (λ i. i < length (now locks)) ⌝ }
+        ensures value { λ r. ⌜ r ≡ caseMet (now (self .entry) .geometry .measures) (now (lines .entry)) (now (locks .entry)) request entry ⌝ }
         ensures sound { λ r. ⌜ made r (λ case. Sound (now (self .entry) .geometry .measures) (length (now (lines .entry))) (length (now (locks .entry))) case) ⌝ }
-        ensures ready { λ r. ⌜ made r (λ case. Ready (now (self .entry) .processors) (case .processor)) ⌝ }
+        ensures same { λ r. ⌜ made r (λ case. case .processor ≡ request .processor) ⌝ }
     {
-        self.admit(blocks, request)?;
-        let entry = self.entry_for(locks, request)?;
         let block = request.address / 4;
         let place = line_of(&self.geometry, lines, request.processor, block);
         let found = line_at(lines, place).state;
         let copy = supplier(&self.geometry, lines, request.processor, block);
         let holder = lock_holder(&self.geometry, locks, request.processor, block);
         let action = acts_as(request.command, request.address, found, copy.is_some());
-        if let Action::DW = action {
-            if !found.is_valid() && (copy.is_some() || holder.is_some()) {
-                return Err(Refusal::CopyElsewhere);
-            }
+        if is_direct_write(action) && !found.is_valid() && (copy.is_some() || holder.is_some()) {
+            return Err(Refusal::CopyElsewhere);
         }
         match look_up(action, found) {
             Cell::MachineCheck => Err(Refusal::MachineCheck(found)),
@@ -176,5 +196,22 @@ impl Cluster {
                 entry,
             }),
         }
+    }
+
+    pub(crate) fn case_of(
+        &self,
+        lines: &[Line],
+        locks: &[LockEntry],
+        blocks: u32,
+        request: Request,
+    ) -> Result<Case, Refusal>
+        requires { ⌜ length (now lines) ≡ lineCount (now self .geometry .measures) ⌝ }
+        ensures value { λ r. ⌜ r ≡ caseOf (now (self .entry) .geometry .measures) (now (self .entry) .processors) (now (lines .entry)) (now (locks .entry)) blocks request ⌝ }
+        ensures sound { λ r. ⌜ made r (λ case. Sound (now (self .entry) .geometry .measures) (length (now (lines .entry))) (length (now (locks .entry))) case) ⌝ }
+        ensures ready { λ r. ⌜ made r (λ case. Ready (now (self .entry) .processors) (case .processor)) ⌝ }
+    {
+        self.admit(blocks, request)?;
+        let entry = self.entry_for(locks, request)?;
+        self.case_met(lines, locks, request, entry)
     }
 }

@@ -14,8 +14,9 @@ ghost use Rattle.cluster.specs.Doing.{suppliedBy, supplied, stateLeft, victimO
 ghost use Rattle.cluster.specs.Finishing.{wayTaken, busSeen, placed, copyLeft, linesAfter, turnsAfter, processorsAfter, completed};
 ghost use Rattle.cluster.specs.Locks.{waitedFor};
 ghost use Rattle.cluster.specs.Making.{resting, tablesFit};
+ghost use Rattle.cluster.specs.Rule.{swapping, supplying, proceeding, meeting, commandRule};
 ghost use Rattle.cluster.specs.Settling.{ulSent, locksSettled, wokenBy};
-ghost use Rattle.cluster.specs.Waiting.{woken, allWoken, turnRaised, waitingFor, WaitsMore};
+ghost use Rattle.cluster.specs.Waiting.{Ready, notWaiting, woken, allWoken, turnRaised, waitingFor, WaitsMore};
 use crate::caches::line_at;
 use crate::caches::line_of;
 use crate::case::Case;
@@ -67,10 +68,16 @@ fn supply_from<M: Memory>(
     match copy {
         Some(q) => {
             let words = line_at(lines, line_of(geometry, lines, q, block)).words;
-            Ok(Supply { words, from: Some(Supplier::Cache(q)) })
+            Ok(Supply {
+                words,
+                from: Some(Supplier::Cache(q)),
+            })
         }
         None => match memory.read(block) {
-            Ok(words) => Ok(Supply { words, from: Some(Supplier::Memory) }),
+            Ok(words) => Ok(Supply {
+                words,
+                from: Some(Supplier::Memory),
+            }),
             Err(_) => Err(Refusal::Memory(block, Direction::Read)),
         },
     }
@@ -101,7 +108,11 @@ fn victim(lines: &[Line], taken: Option<Taken>) -> Option<Line>
         return None;
     };
     let old = lines[way.place];
-    if old.state.is_modified() { Some(old) } else { None }
+    if old.state.is_modified() {
+        Some(old)
+    } else {
+        None
+    }
 }
 
 // Writes the victim's block to memory.
@@ -160,7 +171,11 @@ fn cycles(
     ensures bound { λ r. ⌜ r ≤ 4000 ⌝ }
 {
     let swap_out = if swapped { costs.swap_out } else { 0 };
-    let invalidation = if is_invalidation(bus) { costs.invalidation } else { 0 };
+    let invalidation = if is_invalidation(bus) {
+        costs.invalidation
+    } else {
+        0
+    };
     let signal = if ul { costs.lock_signal } else { 0 };
     swap_out + supply_cost(costs, from) + invalidation + signal
 }
@@ -189,7 +204,10 @@ fn awake(processor: Processor, block: u32) -> Processor
     ensures { λ r. ⌜ r ≡ woken block processor ⌝ }
 {
     match processor.waits_for {
-        Some(awaited) if awaited == block => Processor { turn: processor.turn, waits_for: None },
+        Some(awaited) if awaited == block => Processor {
+            turn: processor.turn,
+            waits_for: None,
+        },
         _ => processor,
     }
 }
@@ -199,10 +217,12 @@ impl Cluster {
     fn wait(&mut self, locks: &mut [LockEntry], case: &Case, holder: u8) -> LockHit
         requires known { ⌜ now case .processor < now self .geometry .measures .processors ⌝ }
         requires block { ⌜ now case .block < 1073741824 ⌝ }
+        requires ready { ⌜ Ready (now self .processors) (now case .processor) ⌝ }
         ensures answer { λ r. ⌜ r ≡ record { holder = holder; found = now (case .entry) .found; cycles = now (self .entry) .geometry .measures .costs .«lock_signal» } ⌝ }
         ensures locks { λ _. ⌜ now (locks .exit) ≡ waitedFor (now (self .entry) .geometry .measures) (now (locks .entry)) (now (case .entry) .processor) (now (case .entry) .block) ⌝ }
         ensures geometry { λ _. ⌜ now (self .exit) .geometry ≡ now (self .entry) .geometry ⌝ }
         ensures processors { λ _. ⌜ now (self .exit) .processors ≡ set (now (self .entry) .processors) (now (case .entry) .processor) (waitingFor (getD (now (self .entry) .processors) (now (case .entry) .processor) resting) (now (case .entry) .block)) ⌝ }
+        ensures fewer { λ _. ⌜ notWaiting (now (self .exit) .processors) < notWaiting (now (self .entry) .processors) ⌝ }
     {
         mark_waited(&self.geometry, locks, case.processor, case.block);
         self.processors[case.processor as usize].waits_for = Some(case.block);
@@ -286,7 +306,11 @@ fn copy_left(case: &Case, supply: Supply) -> Line
 {
     let left = state_left(case, supply.from);
     let words = words_left(case.command, case.address, supply.words);
-    let copy = Line { state: left, block: case.block, words };
+    let copy = Line {
+        state: left,
+        block: case.block,
+        words,
+    };
     copy.with_state(left)
 }
 
@@ -355,14 +379,119 @@ impl Cluster {
         }
     }
 
+    // The victim is written before the tables change.
+    fn swap_and_finish<M: Memory>(
+        &mut self,
+        lines: &mut [Line],
+        locks: &mut [LockEntry],
+        memory: &mut M,
+        case: &Case,
+        supply: Supply,
+    ) -> Result<Answer, Refusal>
+        requires rows { ⌜ length (now lines) ≡ lineCount (now self .geometry .measures) ⌝ }
+        requires sound { ⌜ Sound (now self .geometry .measures) (length (now lines)) (length (now locks)) (now case) ⌝ }
+        ensures answer { λ r. ⌜ r ≡ (swapping (now (self .entry) .geometry .measures) (now (self .entry) .processors) (now (lines .entry)) (now (locks .entry)) (M·Memory .model (now (memory .entry))) (now (case .entry)) supply) .answer ⌝ }
+        ensures processors { λ _. ⌜ now (self .exit) .processors ≡ (swapping (now (self .entry) .geometry .measures) (now (self .entry) .processors) (now (lines .entry)) (now (locks .entry)) (M·Memory .model (now (memory .entry))) (now (case .entry)) supply) .processors ⌝ }
+        ensures lines { λ _. ⌜ now (lines .exit) ≡ (swapping (now (self .entry) .geometry .measures) (now (self .entry) .processors) (now (lines .entry)) (now (locks .entry)) (M·Memory .model (now (memory .entry))) (now (case .entry)) supply) .lines ⌝ }
+        ensures locks { λ _. ⌜ now (locks .exit) ≡ (swapping (now (self .entry) .geometry .measures) (now (self .entry) .processors) (now (lines .entry)) (now (locks .entry)) (M·Memory .model (now (memory .entry))) (now (case .entry)) supply) .locks ⌝ }
+        ensures memory { λ _. ⌜ M·Memory .model (now (memory .exit)) ≡ (swapping (now (self .entry) .geometry .measures) (now (self .entry) .processors) (now (lines .entry)) (now (locks .entry)) (M·Memory .model (now (memory .entry))) (now (case .entry)) supply) .memory ⌝ }
+        ensures geometry { λ _. ⌜ now (self .exit) .geometry ≡ now (self .entry) .geometry ⌝ }
+        ensures kept { λ _. ⌜ M·Memory .standing (now (memory .exit)) ≡ M·Memory .standing (now (memory .entry)) ⌝ }
+        ensures waiting { λ r. ⌜ WaitsMore r (now (self .entry) .processors) (now (self .exit) .processors) ⌝ }
+        ensures cost { λ r. ⌜ made r (λ a. cyclesIn a ≤ 4000) ⌝ }
+    {
+        let taken = self.taken(lines, case);
+        let swapped_out = swap_out(memory, victim(lines, taken))?;
+        Ok(Answer::Done(self.finish(lines, locks, case, supply, taken, swapped_out)))
+    }
+
+    // The block is read before the victim is written.
+    fn fetch_and_finish<M: Memory>(
+        &mut self,
+        lines: &mut [Line],
+        locks: &mut [LockEntry],
+        memory: &mut M,
+        case: &Case,
+    ) -> Result<Answer, Refusal>
+        requires rows { ⌜ length (now lines) ≡ lineCount (now self .geometry .measures) ⌝ }
+        requires sound { ⌜ Sound (now self .geometry .measures) (length (now lines)) (length (now locks)) (now case) ⌝ }
+        ensures answer { λ r. ⌜ r ≡ (supplying (now (self .entry) .geometry .measures) (now (self .entry) .processors) (now (lines .entry)) (now (locks .entry)) (M·Memory .model (now (memory .entry))) (now (case .entry))) .answer ⌝ }
+        ensures processors { λ _. ⌜ now (self .exit) .processors ≡ (supplying (now (self .entry) .geometry .measures) (now (self .entry) .processors) (now (lines .entry)) (now (locks .entry)) (M·Memory .model (now (memory .entry))) (now (case .entry))) .processors ⌝ }
+        ensures lines { λ _. ⌜ now (lines .exit) ≡ (supplying (now (self .entry) .geometry .measures) (now (self .entry) .processors) (now (lines .entry)) (now (locks .entry)) (M·Memory .model (now (memory .entry))) (now (case .entry))) .lines ⌝ }
+        ensures locks { λ _. ⌜ now (locks .exit) ≡ (supplying (now (self .entry) .geometry .measures) (now (self .entry) .processors) (now (lines .entry)) (now (locks .entry)) (M·Memory .model (now (memory .entry))) (now (case .entry))) .locks ⌝ }
+        ensures memory { λ _. ⌜ M·Memory .model (now (memory .exit)) ≡ (supplying (now (self .entry) .geometry .measures) (now (self .entry) .processors) (now (lines .entry)) (now (locks .entry)) (M·Memory .model (now (memory .entry))) (now (case .entry))) .memory ⌝ }
+        ensures geometry { λ _. ⌜ now (self .exit) .geometry ≡ now (self .entry) .geometry ⌝ }
+        ensures kept { λ _. ⌜ M·Memory .standing (now (memory .exit)) ≡ M·Memory .standing (now (memory .entry)) ⌝ }
+        ensures waiting { λ r. ⌜ WaitsMore r (now (self .entry) .processors) (now (self .exit) .processors) ⌝ }
+        ensures cost { λ r. ⌜ made r (λ a. cyclesIn a ≤ 4000) ⌝ }
+    {
+        let supply = fetch(&self.geometry, lines, memory, case)?;
+        self.swap_and_finish(lines, locks, memory, case, supply)
+    }
+
+    fn proceed<M: Memory>(
+        &mut self,
+        lines: &mut [Line],
+        locks: &mut [LockEntry],
+        memory: &mut M,
+        case: &Case,
+    ) -> Result<Answer, Refusal>
+        requires rows { ⌜ length (now lines) ≡ lineCount (now self .geometry .measures) ⌝ }
+        requires sound { ⌜ Sound (now self .geometry .measures) (length (now lines)) (length (now locks)) (now case) ⌝ }
+        requires ready { ⌜ Ready (now self .processors) (now case .processor) ⌝ }
+        ensures answer { λ r. ⌜ r ≡ (proceeding (now (self .entry) .geometry .measures) (now (self .entry) .processors) (now (lines .entry)) (now (locks .entry)) (M·Memory .model (now (memory .entry))) (now (case .entry))) .answer ⌝ }
+        ensures processors { λ _. ⌜ now (self .exit) .processors ≡ (proceeding (now (self .entry) .geometry .measures) (now (self .entry) .processors) (now (lines .entry)) (now (locks .entry)) (M·Memory .model (now (memory .entry))) (now (case .entry))) .processors ⌝ }
+        ensures lines { λ _. ⌜ now (lines .exit) ≡ (proceeding (now (self .entry) .geometry .measures) (now (self .entry) .processors) (now (lines .entry)) (now (locks .entry)) (M·Memory .model (now (memory .entry))) (now (case .entry))) .lines ⌝ }
+        ensures locks { λ _. ⌜ now (locks .exit) ≡ (proceeding (now (self .entry) .geometry .measures) (now (self .entry) .processors) (now (lines .entry)) (now (locks .entry)) (M·Memory .model (now (memory .entry))) (now (case .entry))) .locks ⌝ }
+        ensures memory { λ _. ⌜ M·Memory .model (now (memory .exit)) ≡ (proceeding (now (self .entry) .geometry .measures) (now (self .entry) .processors) (now (lines .entry)) (now (locks .entry)) (M·Memory .model (now (memory .entry))) (now (case .entry))) .memory ⌝ }
+        ensures geometry { λ _. ⌜ now (self .exit) .geometry ≡ now (self .entry) .geometry ⌝ }
+        ensures kept { λ _. ⌜ M·Memory .standing (now (memory .exit)) ≡ M·Memory .standing (now (memory .entry)) ⌝ }
+        ensures waiting { λ r. ⌜ WaitsMore r (now (self .entry) .processors) (now (self .exit) .processors) ⌝ }
+        ensures cost { λ r. ⌜ made r (λ a. cyclesIn a ≤ 4000) ⌝ }
+    {
+        if let Some(holder) = case.lock_hit() {
+            return Ok(Answer::Wait(self.wait(locks, case, holder)));
+        }
+        self.fetch_and_finish(lines, locks, memory, case)
+    }
+
+    fn meet<M: Memory>(
+        &mut self,
+        lines: &mut [Line],
+        locks: &mut [LockEntry],
+        memory: &mut M,
+        request: Request,
+    ) -> Result<Answer, Refusal>
+        requires { ⌜ length (now lines) ≡ lineCount (now self .geometry .measures) ⌝ }
+        ensures answer { λ r. ⌜ r ≡ (meeting (now (self .entry) .geometry .measures) (now (self .entry) .processors) (now (lines .entry)) (now (locks .entry)) (M·Memory .model (now (memory .entry))) request) .answer ⌝ }
+        ensures processors { λ _. ⌜ now (self .exit) .processors ≡ (meeting (now (self .entry) .geometry .measures) (now (self .entry) .processors) (now (lines .entry)) (now (locks .entry)) (M·Memory .model (now (memory .entry))) request) .processors ⌝ }
+        ensures lines { λ _. ⌜ now (lines .exit) ≡ (meeting (now (self .entry) .geometry .measures) (now (self .entry) .processors) (now (lines .entry)) (now (locks .entry)) (M·Memory .model (now (memory .entry))) request) .lines ⌝ }
+        ensures locks { λ _. ⌜ now (locks .exit) ≡ (meeting (now (self .entry) .geometry .measures) (now (self .entry) .processors) (now (lines .entry)) (now (locks .entry)) (M·Memory .model (now (memory .entry))) request) .locks ⌝ }
+        ensures memory { λ _. ⌜ M·Memory .model (now (memory .exit)) ≡ (meeting (now (self .entry) .geometry .measures) (now (self .entry) .processors) (now (lines .entry)) (now (locks .entry)) (M·Memory .model (now (memory .entry))) request) .memory ⌝ }
+        ensures geometry { λ _. ⌜ now (self .exit) .geometry ≡ now (self .entry) .geometry ⌝ }
+        ensures kept { λ _. ⌜ M·Memory .standing (now (memory .exit)) ≡ M·Memory .standing (now (memory .entry)) ⌝ }
+        ensures waiting { λ r. ⌜ WaitsMore r (now (self .entry) .processors) (now (self .exit) .processors) ⌝ }
+        ensures cost { λ r. ⌜ made r (λ a. cyclesIn a ≤ 4000) ⌝ }
+    {
+        let case = self.case_of(lines, locks, memory.blocks(), request)?;
+        self.proceed(lines, locks, memory, &case)
+    }
+
+    fn tables_fit(&self, lines: &[Line], locks: &[LockEntry]) -> bool
+        ensures { λ r. ⌜ r ≡ tablesFit (now (self .entry) .geometry .measures) (length (now (lines .entry))) (length (now (locks .entry))) ⌝ }
+    {
+        lines.len() == self.geometry.line_count() && locks.len() == self.geometry.lock_count()
+    }
+
     // Refuses a table of wrong length with 2.
     pub fn check_tables(&self, lines: &[Line], locks: &[LockEntry]) -> Result<(), Refusal>
         ensures { λ r. ⌜ r ≡ cond (tablesFit (now (self .entry) .geometry .measures) (length (now (lines .entry))) (length (now (locks .entry)))) (Ok tt) (Err Refusal.TableLength) ⌝ }
     {
-        if lines.len() != self.geometry.line_count() || locks.len() != self.geometry.lock_count() {
-            return Err(Refusal::TableLength);
+        if self.tables_fit(lines, locks) {
+            Ok(())
+        } else {
+            Err(Refusal::TableLength)
         }
-        Ok(())
     }
 
     // Issues a command for a processor.
@@ -373,17 +502,19 @@ impl Cluster {
         memory: &mut M,
         request: Request,
     ) -> Result<Answer, Refusal>
+        ensures answer { λ r. ⌜ r ≡ (commandRule (now (self .entry) .geometry .measures) (now (self .entry) .processors) (now (lines .entry)) (now (locks .entry)) (M·Memory .model (now (memory .entry))) request) .answer ⌝ }
+        ensures processors { λ _. ⌜ now (self .exit) .processors ≡ (commandRule (now (self .entry) .geometry .measures) (now (self .entry) .processors) (now (lines .entry)) (now (locks .entry)) (M·Memory .model (now (memory .entry))) request) .processors ⌝ }
+        ensures lines { λ _. ⌜ now (lines .exit) ≡ (commandRule (now (self .entry) .geometry .measures) (now (self .entry) .processors) (now (lines .entry)) (now (locks .entry)) (M·Memory .model (now (memory .entry))) request) .lines ⌝ }
+        ensures locks { λ _. ⌜ now (locks .exit) ≡ (commandRule (now (self .entry) .geometry .measures) (now (self .entry) .processors) (now (lines .entry)) (now (locks .entry)) (M·Memory .model (now (memory .entry))) request) .locks ⌝ }
+        ensures memory { λ _. ⌜ M·Memory .model (now (memory .exit)) ≡ (commandRule (now (self .entry) .geometry .measures) (now (self .entry) .processors) (now (lines .entry)) (now (locks .entry)) (M·Memory .model (now (memory .entry))) request) .memory ⌝ }
+        ensures geometry { λ _. ⌜ now (self .exit) .geometry ≡ now (self .entry) .geometry ⌝ }
+        ensures kept { λ _. ⌜ M·Memory .standing (now (memory .exit)) ≡ M·Memory .standing (now (memory .entry)) ⌝ }
         ensures waiting { λ r. ⌜ WaitsMore r (now (self .entry) .processors) (now (self .exit) .processors) ⌝ }
         ensures cost { λ r. ⌜ made r (λ a. cyclesIn a ≤ 4000) ⌝ }
     {
-        self.check_tables(lines, locks)?;
-        let case = self.case_of(lines, locks, memory.blocks(), request)?;
-        if let Some(holder) = case.lock_hit() {
-            return Ok(Answer::Wait(self.wait(locks, &case, holder)));
+        if !self.tables_fit(lines, locks) {
+            return Err(Refusal::TableLength);
         }
-        let supply = fetch(&self.geometry, lines, memory, &case)?;
-        let taken = self.taken(lines, &case);
-        let swapped_out = swap_out(memory, victim(lines, taken))?;
-        Ok(Answer::Done(self.finish(lines, locks, &case, supply, taken, swapped_out)))
+        self.meet(lines, locks, memory, request)
     }
 }

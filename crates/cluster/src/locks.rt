@@ -45,11 +45,7 @@ pub(crate) fn held_entry(
 }
 
 // The processor's lowest empty entry.
-pub(crate) fn free_entry(
-    geometry: &Geometry,
-    locks: &[LockEntry],
-    processor: u8,
-) -> Option<usize>
+pub(crate) fn free_entry(geometry: &Geometry, locks: &[LockEntry], processor: u8) -> Option<usize>
     ensures value { λ r. ⌜ r ≡ freeEntry (now (geometry .entry) .measures) (now (locks .entry)) processor ⌝ }
     ensures within { λ r. ⌜ found r (λ i. i < length (now (locks .entry))) ⌝ }
 {
@@ -57,7 +53,13 @@ pub(crate) fn free_entry(
 }
 
 // Whether the processor is not the asking one and has a lock in the block.
-fn other_lock(geometry: &Geometry, locks: &[LockEntry], asking: u8, block: u32, processor: u8) -> bool
+fn other_lock(
+    geometry: &Geometry,
+    locks: &[LockEntry],
+    asking: u8,
+    block: u32,
+    processor: u8,
+) -> bool
     requires { ⌜ block < 1073741824 ⌝ }
     ensures { λ r. ⌜ r ≡ otherLock (now (geometry .entry) .measures) (now (locks .entry)) asking block processor ⌝ }
 {
@@ -90,19 +92,17 @@ fn waited(geometry: &Geometry, asking: u8, block: u32, place: usize, entry: Lock
     let start = geometry.locks_of(asking);
     let own = start <= place && place < start + geometry.lock_entries();
     if !own && entry.lies_in(4 * block, 4 * block + 3) {
-        LockEntry { state: LockState::LW, address: entry.address }
+        LockEntry {
+            state: LockState::LW,
+            address: entry.address,
+        }
     } else {
         entry
     }
 }
 
 // Every lock of the other processors in the block has somebody waiting now.
-pub(crate) fn mark_waited(
-    geometry: &Geometry,
-    locks: &mut [LockEntry],
-    asking: u8,
-    block: u32,
-)
+pub(crate) fn mark_waited(geometry: &Geometry, locks: &mut [LockEntry], asking: u8, block: u32)
     requires { ⌜ block < 1073741824 ⌝ }
     ensures { λ _. ⌜ now (locks .exit) ≡ waitedFor (now (geometry .entry) .measures) (now (locks .entry)) asking block ⌝ }
 {

@@ -32,7 +32,13 @@ pub(crate) fn take_way(
     let start = geometry.window(processor, block);
     let ways = geometry.ways();
     match Directory::new(lines).free(start, ways) {
-        Some(free) => Taken { place: free, by_turn: false },
-        None => Taken { place: start + turn % ways, by_turn: true },
+        Some(free) => Taken {
+            place: free,
+            by_turn: false,
+        },
+        None => Taken {
+            place: start + turn % ways,
+            by_turn: true,
+        },
     }
 }
