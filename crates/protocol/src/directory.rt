@@ -55,9 +55,9 @@ impl<'a, E: Entry> Directory<'a, E> {
         ensures within { λ r. ⌜ Within from count (now (self .entry .entries)) r ⌝ }
     {
         let end = self.entries.len().min(from.saturating_add(count));
-        for i in from..end {
-            if !self.entries[i].in_use() {
-                return Some(i);
+        for place in from..end {
+            if !self.entries[place].in_use() {
+                return Some(place);
             }
         }
         None
