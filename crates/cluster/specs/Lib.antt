@@ -11,3 +11,4 @@ pub mod Doing
 pub mod Finishing
 pub mod Refusing
 pub mod Rule
+pub mod Worked

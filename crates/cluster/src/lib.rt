@@ -7,3 +7,4 @@ mod locks;
 mod making;
 mod snooping;
 mod ways;
+pub mod worked;
