@@ -17,7 +17,7 @@ use Rattle.protocol.specs.declared.lock.LockEntry.{LockEntry}
 use Rattle.protocol.specs.declared.measures.Measures.{Measures}
 use Rattle.cluster.specs.declared.case.Case.{Case}
 use Rattle.cluster.specs.declared.cluster.Processor.{Processor}
-use Rattle.cluster.specs.declared.command.Supply.{Supply}
+use Rattle.cluster.specs.declared.supply.Supply.{Supply}
 use Rattle.cluster.specs.declared.ways.Taken.{Taken}
 use Rattle.cluster.specs.Doing.{victimOf, swappedOut, memoryAfter}
 use Rattle.cluster.specs.Finishing.{wayTaken}

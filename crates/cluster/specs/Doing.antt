@@ -26,7 +26,7 @@ use Rattle.protocol.specs.Entries.{valid, modified}
 use Rattle.protocol.specs.Lines.{noLine}
 use Rattle.memory.specs.Meaning.{Mem, grants, written}
 use Rattle.cluster.specs.declared.case.Case.{Case}
-use Rattle.cluster.specs.declared.command.Supply.{Supply}
+use Rattle.cluster.specs.declared.supply.Supply.{Supply}
 use Rattle.cluster.specs.declared.ways.Taken.{Taken}
 use Rattle.cluster.specs.Copies.{lineOf, lineAt}
 

@@ -16,7 +16,7 @@ use Rattle.protocol.specs.Acting.{wordAnswered, wordsLeft}
 use Rattle.protocol.specs.Lines.{inState}
 use Rattle.cluster.specs.declared.case.Case.{Case}
 use Rattle.cluster.specs.declared.cluster.Processor.{Processor}
-use Rattle.cluster.specs.declared.command.Supply.{Supply}
+use Rattle.cluster.specs.declared.supply.Supply.{Supply}
 use Rattle.cluster.specs.declared.ways.Taken.{Taken}
 use Rattle.cluster.specs.Cases.{ownPlace, byTurn}
 use Rattle.cluster.specs.Doing.{takesWay, stateLeft, cyclesFor}

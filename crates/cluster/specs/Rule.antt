@@ -18,7 +18,7 @@ use Rattle.protocol.specs.declared.refusal.Refusal.the-variants.{TableLength}
 use Rattle.memory.specs.Meaning.{Mem}
 use Rattle.cluster.specs.declared.case.Case.{Case}
 use Rattle.cluster.specs.declared.cluster.Processor.{Processor}
-use Rattle.cluster.specs.declared.command.Supply.{Supply}
+use Rattle.cluster.specs.declared.supply.Supply.{Supply}
 use Rattle.cluster.specs.declared.ways.Taken.{Taken}
 use Rattle.cluster.specs.Doing.{lockHit, supplied, victimOf, swappedOut, memoryAfter}
 use Rattle.cluster.specs.Finishing.{wayTaken, linesAfter, processorsAfter, completed}
