@@ -1,9 +1,8 @@
--- What a command that is not refused by its numbers does: the block's words, the swap-out, the cycles.
+-- What a command that is not refused with 2 to 10 does: lock hit, the block's words, the swap-out, the cycles.
 use Prim.Native.Nat.{ℕ, _+_}
 use mathlib.Core.Bool.{Bool, true, false, cond, not, _&&_}
 use mathlib.Core.List.{List}
 use lib.ListN.{getD}
-use Rattle.std.specs.Options.{isSome}
 use Rattle.std.specs.declared.option.Option.{Option}
 use Rattle.std.specs.declared.option.Option.the-variants.{Some, None}
 use Rattle.std.specs.declared.result.Result.{Result}

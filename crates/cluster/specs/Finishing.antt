@@ -1,6 +1,6 @@
 -- What a done command leaves and answers.
 use Prim.Native.Nat.{ℕ}
-use mathlib.Core.Bool.{Bool, cond}
+use mathlib.Core.Bool.{cond}
 use mathlib.Core.List.{List}
 use lib.ListN.{getD, set}
 use Rattle.std.specs.Options.{isSome}

@@ -49,7 +49,7 @@ abbrev pub ownEntry : Measures → ℕ → ℕ → Bool
 ownEntry m processor place =
     let start = locksStart m processor in leb start place && ltb place (start + m .«lock_entries»)
 
--- somebody waits for a lock of another processor in the block
+-- the asking processor begins to wait: a lock of another processor in the block becomes LW
 abbrev pub waitedAt : Measures → ℕ → ℕ → ℕ → LockEntry → LockEntry
 waitedAt m asking block place e =
     cond (not (ownEntry m asking place) && locksBlock block e) (record { state = LW; address = e .address }) e

@@ -1,7 +1,7 @@
 -- A new cluster: every line I, every lock entry E, every number 0, nobody waits.
 use Prim.Native.Nat.{ℕ}
 use mathlib.Core.Bool.{Bool, cond, _&&_}
-use mathlib.Core.List.{List, [], _∷_}
+use mathlib.Core.List.{List}
 use lib.Dec.{eqb}
 use lib.ListN.{length, replicate}
 use Rattle.std.specs.declared.option.Option.the-variants.{None}

@@ -1,7 +1,7 @@
 -- Refusals 3 to 10 of a command, in their order, and what a command meets that none of them refuses.
 use Prim.Native.Nat.{ℕ, _*_, _/_}
 use mathlib.Core.Bool.{Bool, true, false, cond, not, _&&_, _||_}
-use mathlib.Core.List.{List, [], _∷_, _++_}
+use mathlib.Core.List.{List, [], _∷_}
 use lib.Dec.{leb}
 use lib.ListN.{getD}
 use Rattle.std.specs.Options.{isSome}

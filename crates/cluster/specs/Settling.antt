@@ -39,7 +39,7 @@ releasesLock U = true
 abbrev pub lockedAt : ℕ → LockEntry
 lockedAt address = record { state = L; address = address }
 
--- LR writes its address as L into its entry; a release empties its entry
+-- LR writes its address as L into its entry; a release empties its entry; other commands have none
 abbrev pub locksSettled : Command → ℕ → List LockEntry → Option ℕ → List LockEntry
 locksSettled command address locks None = locks
 locksSettled command address locks (Some place) = set locks place (cond (takesLock command) (lockedAt address) blankEntry)

@@ -19,8 +19,8 @@ freeWay m lines processor block =
 
 -- a free way, else the one that the turn numbers
 abbrev pub chosenWay : Option ℕ → ℕ → Taken
-chosenWay (Some free) victim = record { place = free; «by_turn» = false }
-chosenWay None victim = record { place = victim; «by_turn» = true }
+chosenWay (Some free) turned = record { place = free; «by_turn» = false }
+chosenWay None turned = record { place = turned; «by_turn» = true }
 
 abbrev pub takenWay : Measures → List Line → ℕ → ℕ → ℕ → Taken
 takenWay m lines processor block turn =

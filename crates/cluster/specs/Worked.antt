@@ -17,7 +17,6 @@ use Rattle.protocol.specs.declared.command.Command.the-variants.{R, W, DW, RP, 
 use Rattle.protocol.specs.declared.command.Request.{Request}
 use Rattle.protocol.specs.declared.line.Line.{Line}
 use Rattle.protocol.specs.declared.lock.LockEntry.{LockEntry}
-use Rattle.protocol.specs.declared.measures.Costs.{Costs}
 use Rattle.protocol.specs.declared.measures.Measures.{Measures}
 use Rattle.protocol.specs.declared.refusal.Refusal.{Refusal}
 use Rattle.protocol.specs.declared.refusal.Refusal.the-variants.{Address, Waiting, LockHeld, NoLockEntry, MachineCheck}
@@ -26,18 +25,12 @@ use Rattle.protocol.specs.declared.state.State.the-variants.{I, S, SM, EC, EM}
 use Rattle.protocol.specs.Limits.{lawful}
 use Rattle.protocol.specs.Lines.{blankLine}
 use Rattle.protocol.specs.Places.{lineCount, lockCount}
+use Rattle.protocol.specs.Standard.{standardCosts, withColumns}
 use Rattle.memory.specs.Meaning.{Mem}
 use Rattle.memory.specs.Words.{tableOf}
 use Rattle.cluster.specs.declared.cluster.Processor.{Processor}
 use Rattle.cluster.specs.Making.{allResting, blankEntry}
 use Rattle.cluster.specs.Rule.{Outcome, commandRule}
-
-abbrev pub standardCosts : Costs
-standardCosts = record { «swap_in» = 13; transfer = 7; invalidation = 2; «swap_out» = 5; «lock_signal» = 2 }
-
--- the standard measures with other columns
-abbrev pub withColumns : ℕ → Measures
-withColumns columns = record { processors = 8; columns = columns; ways = 4; «lock_entries» = 2; costs = standardCosts }
 
 -- two processors with one line and one lock entry each
 abbrev pub two : Measures

@@ -1,5 +1,5 @@
 -- The layers keep the laws of a memory.
-use Prim.Native.Nat.{ℕ, min, _*_, _/_, _≤_}
+use Prim.Native.Nat.{ℕ, min, _*_, _/_}
 use mathlib.Core.Path.{_≡_}
 use mathlib.Core.Bool.{Bool, true, false, cond}
 use mathlib.Core.List.{List}

@@ -12,7 +12,7 @@ valid SM = true
 valid EC = true
 valid EM = true
 
--- memory does not have the block's words
+-- memory need not have the block's words
 abbrev pub modified : State → Bool
 modified I = false
 modified S = false

@@ -7,3 +7,4 @@ pub mod Answers
 pub mod StateTable
 pub mod Lines
 pub mod Acting
+pub mod Standard

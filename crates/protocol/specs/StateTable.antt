@@ -1,4 +1,5 @@
--- The published state table and snoop table, by cases.
+-- The published state table and snoop table, by cases. One cell differs: W that finds EC leaves EM and not EC, since
+-- the written word would be lost.
 use Prim.Native.Nat.{ℕ}
 use mathlib.Core.Bool.{true, false}
 use Rattle.std.specs.declared.option.Option.the-variants.{Some, None}

@@ -22,7 +22,7 @@ impl State {
         }
     }
 
-    // Memory does not have the block's words.
+    // Memory need not have the block's words.
     pub fn is_modified(self) -> bool
         ensures { λ r. ⌜ r ≡ modified self ⌝ }
     {

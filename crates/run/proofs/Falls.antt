@@ -18,7 +18,7 @@ use Rattle.cluster.specs.declared.cluster.Processor.{Processor}
 use Rattle.cluster.specs.Waiting.{notWaiting, WaitsMore}
 use Rattle.run.specs.declared.run.Run.{Run}
 use Rattle.run.specs.declared.run.Step.{Step}
-use Rattle.run.specs.Answered.{costOf, finishing}
+use Rattle.run.specs.Answered.{costOf, finishesRecord}
 use Rattle.run.specs.Progress.{toCome, remaining, Stepped, Bounded, Fresh}
 
 few-idle : (ps : List Processor) → notWaiting ps ≤ length ps
@@ -40,7 +40,7 @@ finished-falls count next p to ps qs eight h below on =
     let idle : notWaiting qs ≤ length qs = few-idle qs in
     omega arith
 
-pub wait-falls : (r : Result Answer Refusal) (count : ℕ) (next : List ℕ) (ps qs : List Processor) → false ≡ finishing r
+pub wait-falls : (r : Result Answer Refusal) (count : ℕ) (next : List ℕ) (ps qs : List Processor) → false ≡ finishesRecord r
     → WaitsMore r ps qs → remaining count next qs < remaining count next ps
 wait-falls (Ok (Done done)) count next ps qs e h = let no-way : _≡_ {A = ℕ} 0 1 = cc in omega arith
 wait-falls (Ok (Wait hit)) count next ps qs e h = omega arith

@@ -13,7 +13,7 @@ costOf (Ok answer) = cyclesIn answer
 costOf (Err refusal) = 0
 
 -- WAIT leaves its record unfinished; every other answer, a refusal too, finishes it
-abbrev pub finishing : Result Answer Refusal → Bool
-finishing (Ok (Done done)) = true
-finishing (Ok (Wait hit)) = false
-finishing (Err refusal) = true
+abbrev pub finishesRecord : Result Answer Refusal → Bool
+finishesRecord (Ok (Done done)) = true
+finishesRecord (Ok (Wait hit)) = false
+finishesRecord (Err refusal) = true

@@ -4,7 +4,7 @@ ghost use Prim.Native.Nat.{_+_, _*_, _<_, _≤_};
 ghost use lib.ListN.{length, getD};
 ghost use Rattle.std.specs.Slices.{found};
 ghost use Rattle.trace.specs.Sizes.{recordsIn};
-ghost use Rattle.run.specs.Answered.{costOf, finishing};
+ghost use Rattle.run.specs.Answered.{costOf, finishesRecord};
 ghost use Rattle.run.specs.Progress.{Fresh, Stepped};
 use cluster::cluster::Cluster;
 use memory::memory::Memory;
@@ -48,7 +48,7 @@ fn cost(answer: &Result<Answer, Refusal>) -> u32
 
 // WAIT leaves its record unfinished; every other answer finishes it.
 fn finishes(answer: &Result<Answer, Refusal>) -> bool
-    ensures { λ r. ⌜ r ≡ finishing (now (answer .entry)) ⌝ }
+    ensures { λ r. ⌜ r ≡ finishesRecord (now (answer .entry)) ⌝ }
 {
     match answer {
         Ok(Answer::Wait(_)) => false,

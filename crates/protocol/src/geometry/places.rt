@@ -4,6 +4,7 @@ ghost use mathlib.Core.Bool.{cond};
 ghost use Prim.Native.Nat.{_+_, _≤_, _<_};
 ghost use Rattle.std.specs.declared.result.Result.the-variants.{Ok, Err};
 ghost use Rattle.protocol.specs.Limits.{lawful, measured, LowCosts};
+ghost use Rattle.protocol.specs.Standard.{withColumns};
 ghost use Rattle.protocol.specs.Places.{lineCount, lockCount, windowStart, locksStart};
 use crate::geometry::Geometry;
 use crate::measures::Costs;
@@ -37,6 +38,15 @@ impl Geometry {
             return Err(Refusal::Geometry);
         }
         Ok(Geometry { measures })
+    }
+
+    // The measures that a cluster has unless others are given.
+    pub fn standard() -> Geometry
+        ensures { λ r. ⌜ r .measures ≡ withColumns 256 ⌝ }
+    {
+        Geometry {
+            measures: Measures::STANDARD,
+        }
     }
 
     pub fn processors(&self) -> u8
