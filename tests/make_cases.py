@@ -76,7 +76,7 @@ class Case:
                            0, int(address, 16), int(data[0], 16) if data else 0)
 
 
-def read_cases(text):
+def read_cases(text, kind=Case, source="cases.txt"):
     """All cases of the file, in order."""
     cases, case, giving = [], None, False
     for number, line in enumerate(text.splitlines(), 1):
@@ -93,14 +93,14 @@ def read_cases(text):
                 name = line[len("case "):]
                 if case or not NAME.fullmatch(name) or name in [c.name for c in cases]:
                     raise ValueError("bad or repeated name, or no empty line before")
-                case = Case(name)
+                case = kind(name)
                 cases.append(case)
             elif line == "gives":
                 giving = True
             else:
                 case.take(line)
         except (ValueError, IndexError, AttributeError, struct.error) as fault:
-            sys.exit("cases.txt:%d: %s: %s" % (number, line, fault))
+            sys.exit("%s:%d: %s: %s" % (source, number, line, fault))
     return cases
 
 
@@ -122,6 +122,21 @@ def differs_from_model(case):
     return True
 
 
+def write_or_check(folder, wanted, count, option, usage):
+    """Writes the files, or under --check tells which are not up to date."""
+    if option == ["--check"]:
+        stale = [name for name, data in wanted.items()
+                 if not (folder / name).is_file() or (folder / name).read_bytes() != data]
+        for name in stale:
+            print("crates/%s/%s is not up to date" % (folder.name, name))
+        sys.exit(1 if stale else 0)
+    if option:
+        sys.exit(usage)
+    for name, data in wanted.items():
+        (folder / name).write_bytes(data)
+    print("%d cases written" % count)
+
+
 def main():
     cases = read_cases((CASES / "cases.txt").read_text(encoding="ascii"))
     option = sys.argv[1:]
@@ -129,18 +144,7 @@ def main():
         wrong = sum(differs_from_model(case) for case in cases)
         print("%d cases, %d differ from the model" % (len(cases), wrong))
         sys.exit(1 if wrong else 0)
-    wanted = files(cases)
-    if option == ["--check"]:
-        stale = [name for name, data in wanted.items()
-                 if not (CASES / name).is_file() or (CASES / name).read_bytes() != data]
-        for name in stale:
-            print("crates/cases/%s is not what cases.txt gives" % name)
-        sys.exit(1 if stale else 0)
-    if option:
-        sys.exit(__doc__)
-    for name, data in wanted.items():
-        (CASES / name).write_bytes(data)
-    print("%d cases written" % len(cases))
+    write_or_check(CASES, files(cases), len(cases), option, __doc__)
 
 
 if __name__ == "__main__":
