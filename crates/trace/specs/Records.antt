@@ -66,7 +66,8 @@ abbrev pub decoded : List ℕ → Option Record
 decoded bytes =
     cond (wellFormed bytes)
     (mapped (λ command. record {
-        stamp = numberAt bytes 0;
-        request = record { processor = getD bytes 4 0; command = command; address = numberAt bytes 8 } })
-      (commandFor (getD bytes 5 0) (numberAt bytes 12)))
+      stamp = numberAt bytes 0;
+      request = record { processor = getD bytes 4 0; command = command; address = numberAt bytes 8 };
+    })
+    (commandFor (getD bytes 5 0) (numberAt bytes 12)))
     None

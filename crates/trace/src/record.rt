@@ -2,6 +2,7 @@
 ghost use Prim.Native.Nat.{_+_, _≤_};
 ghost use mathlib.Core.Path.{_≡_};
 ghost use lib.ListN.{length};
+ghost use Rattle.std.specs.Slices.{found};
 ghost use Rattle.std.specs.declared.option.Option.the-variants.{Some};
 ghost use Rattle.trace.specs.Records.{numberAt, codeOf, dataOf, wordlessFor, commandFor, encoded, decoded};
 use protocol::command::Command;
@@ -106,7 +107,8 @@ pub fn encode(put: Record) -> [u8; 16]
 
 // The record that sixteen bytes are, if they are one.
 pub fn decode(bytes: &[u8]) -> Option<Record>
-    ensures { λ r. ⌜ r ≡ decoded (now (bytes .entry)) ⌝ }
+    ensures value { λ r. ⌜ r ≡ decoded (now (bytes .entry)) ⌝ }
+    ensures back { λ r. ⌜ found r (λ got. encoded got ≡ now (bytes .entry)) ⌝ }
 {
     if bytes.len() != RECORD_SIZE || bytes[6] != 0 || bytes[7] != 0 {
         return None;
