@@ -1,3 +1,4 @@
 pub mod Answered
 pub mod Board
 pub mod Progress
+pub mod Names

@@ -4,6 +4,8 @@ ghost use Prim.Native.Nat.{_≤_};
 ghost use Rattle.trace.specs.Sizes.{recordsIn};
 use crate::digits::decimal;
 use crate::digits::hexadecimal;
+use crate::names::command_name;
+use crate::names::state_name;
 use crate::run::Run;
 use crate::run::Step;
 use crate::run::Summary;
@@ -12,14 +14,12 @@ use memory::memory::Memory;
 use memory::word_table::WordTable;
 use memory::word_table::WordTableMemory;
 use protocol::answer::Answer;
-use protocol::command::Command;
 use protocol::geometry::Geometry;
 use protocol::line::Line;
 use protocol::lock::LockEntry;
 use protocol::measures::Costs;
 use protocol::measures::Measures;
 use protocol::refusal::Refusal;
-use protocol::state::State;
 use std::alloc::AllocError;
 use std::alloc::Global;
 use trace::trace::Trace;
@@ -27,30 +27,6 @@ use trace::trace::Trace;
 const MOST_INPUT: usize = 65_536;
 
 const MEMORY_WORDS: usize = 1_024;
-
-fn command_name(command: Command) -> [u8; 2] {
-    match command {
-        Command::R => *b"R ",
-        Command::W(_) => *b"W ",
-        Command::DW(_) => *b"DW",
-        Command::RI => *b"RI",
-        Command::RP => *b"RP",
-        Command::RB => *b"RB",
-        Command::LR => *b"LR",
-        Command::UW(_) => *b"UW",
-        Command::U => *b"U ",
-    }
-}
-
-fn state_name(state: State) -> [u8; 2] {
-    match state {
-        State::EM => *b"EM",
-        State::EC => *b"EC",
-        State::SM => *b"SM",
-        State::S => *b"S ",
-        State::I => *b"I ",
-    }
-}
 
 // What a line shows of an answer or a refusal.
 #[derive(Clone, Copy)]

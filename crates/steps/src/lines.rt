@@ -4,41 +4,17 @@ use protocol::answer::Completion;
 use protocol::answer::LockHit;
 use protocol::answer::Supplier;
 use protocol::command::BusCommand;
-use protocol::command::Command;
 use protocol::command::Request;
 use protocol::line::Line;
 use protocol::lock::LockEntry;
 use protocol::lock::LockState;
 use protocol::refusal::Direction;
 use protocol::refusal::Refusal;
-use protocol::state::State;
 use run::digits::decimal;
 use run::digits::hexadecimal;
+use run::names::command_name;
+use run::names::state_name;
 use std::alloc::AllocError;
-
-fn command_name(command: Command) -> [u8; 2] {
-    match command {
-        Command::R => *b"R ",
-        Command::W(_) => *b"W ",
-        Command::DW(_) => *b"DW",
-        Command::RI => *b"RI",
-        Command::RP => *b"RP",
-        Command::RB => *b"RB",
-        Command::LR => *b"LR",
-        Command::UW(_) => *b"UW",
-        Command::U => *b"U ",
-    }
-}
-
-fn state_name(state: State) -> [u8; 2] {
-    match state {
-        State::EM => *b"EM",
-        State::EC => *b"EC",
-        State::SM => *b"SM",
-        State::S => *b"S ",
-        State::I => *b"I ",
-    }
-}
 
 fn bus_name(bus: Option<BusCommand>) -> [u8; 2] {
     match bus {
