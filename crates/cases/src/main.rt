@@ -1,5 +1,7 @@
 // Lists many short traces in one run. The input has, for each, a byte with the length of its name, the name, four
 // bytes with the trace's length, and the trace; tests/make_cases.py makes it from cases.txt.
+#![tactic(auto)]
+
 ghost use Rattle.std.specs.Prelude.{◌<◌, length, IfSome};
 
 use run::listing::list;

@@ -1,5 +1,7 @@
 // Runs the trace on standard input on the cluster of the listing program. Prints how many lines of each processor are
 // then in each state, and what a drain writes back.
+#![tactic(auto)]
+
 mod lines;
 mod report;
 

@@ -1,4 +1,6 @@
 // The cluster: its processors, its lent tables of lines and lock entries, and the command call.
+#![tactic(auto)]
+
 mod caches;
 mod case;
 pub mod cluster;

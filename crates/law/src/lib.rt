@@ -1,3 +1,5 @@
 // Laws over calls, whatever a cluster, its tables and its memory hold.
+#![tactic(auto)]
+
 pub mod accounts;
 pub mod refusals;

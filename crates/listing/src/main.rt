@@ -1,4 +1,6 @@
 // Lists the trace on standard input. The bytes are made by the library; here they are only read and written.
+#![tactic(auto)]
+
 use run::listing::list;
 use std::io;
 use std::io::{Read, Write};

@@ -1,4 +1,6 @@
 // Memories of four-word blocks, one meaning for all.
+#![tactic(auto)]
+
 pub mod copying;
 pub mod dead;
 pub mod interleave;

@@ -34,7 +34,7 @@ impl<'a, E: Entry> Directory<'a, E> {
 
     // The window has `count` entries, the first at `from`.
     pub fn find(self, from: usize, count: usize, low: u32, high: u32) -> Option<usize>
-        ensures value { result ≡ first_in (lies_in used label low high) from (window_of from count self.entry.entries.now) }
+        ensures value { result ≡ first_in (lies_in E.used E.label low high) from (window_of from count self.entry.entries.now) }
         ensures within { Within from count self.entry.entries.now result }
     {
         let end = self.entries.len().min(from.saturating_add(count));
@@ -48,7 +48,7 @@ impl<'a, E: Entry> Directory<'a, E> {
 
     // The first entry of the window that is not in use.
     pub fn free(self, from: usize, count: usize) -> Option<usize>
-        ensures value { result ≡ first_in (unused used) from (window_of from count self.entry.entries.now) }
+        ensures value { result ≡ first_in (unused E.used) from (window_of from count self.entry.entries.now) }
         ensures within { Within from count self.entry.entries.now result }
     {
         let end = self.entries.len().min(from.saturating_add(count));

@@ -1,4 +1,6 @@
 // The published protocol: states, commands, geometry, cache lines, lock entries, the directory and the state table.
+#![tactic(auto)]
+
 pub mod acting;
 pub mod answer;
 pub mod command;

@@ -1,4 +1,6 @@
 // Runs of a trace over a cluster, and their listings.
+#![tactic(auto)]
+
 pub mod listing;
 pub mod run;
 pub mod running;

@@ -1,4 +1,6 @@
 // Memories stacked upon one another, tried on values worked out by hand.
+#![tactic(auto)]
+
 use memory::memory::{Denied, Memory};
 
 // The four words of a block, or none where the memory denies them.

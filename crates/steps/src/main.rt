@@ -1,5 +1,7 @@
 // Plays short lists of commands, each on a new cluster, and shows every field of each answer and the tables at the
 // end. The input holds the cases one after another, as they stand in steps.txt.
+#![tactic(auto)]
+
 mod input;
 mod lines;
 

@@ -1,4 +1,6 @@
 // Traces: records of sixteen bytes between a note and a trailer.
+#![tactic(auto)]
+
 pub mod copying;
 pub mod record;
 pub mod trace;

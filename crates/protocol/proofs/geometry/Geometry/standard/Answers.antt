@@ -2,7 +2,6 @@ use Rattle.std.proofs.Common.{refl, arith}
 use lib.Count.{ones, ones_in}
 use Rattle.protocol.proofs.geometry.Geometry.standard.Goals as goal
 
-pub invariant-of-result : goal.invariant-of-result
+pub invariant_of-result-clause-power_of_two : goal.invariant_of-result-clause-power_of_two
 unfolding ones ones_in
-invariant-of-result c =
-    (omega arith, (omega arith, (refl, (omega arith, (omega arith, (omega arith, (omega arith, (omega arith, (omega arith)))))))))
+invariant_of-result-clause-power_of_two c = refl
