@@ -16,7 +16,7 @@ loop-i-preserved c =
     let p : c.caches.p < c.args.geometry.now.measures.processors = omega arith in
     let end = c.window-start.result + c.ways-ways.result in
     let inside : end ≤ length c.args.lines.now = omega (arith, c.window-start.ensures.within p) in
-    let step = first_miss (holds_block c.args.block) c.args.lines.now c.loop-i.i end _ (omega arith) inside c.if-lies-in.ensures in
+    let step = first_miss (holds_block c.args.block) c.args.lines.now c.loop-i.i end _ (omega arith) inside c.if-lies_in.ensures in
     (c.loop-i.invariant.0, sym step ∙ c.loop-i.invariant.1)
 
 pub caches-preserved : goal.caches-preserved
@@ -28,14 +28,14 @@ caches-preserved c =
     let miss : test c.caches.p ≡ false = grind (arith, nat_tests, none) in
     (c.loop-i.invariant.0, sym (lowest_miss test c.caches.p m.processors (omega arith) miss) ∙ c.caches.invariant.1)
 
-pub returns-then-lies-in : goal.returns-then-lies-in
-returns-then-lies-in c =
+pub returns-then-lies_in : goal.returns-then-lies_in
+returns-then-lies_in c =
     let m = c.args.geometry.now.measures in
     let test = other_copy m c.args.lines.now c.args.asking c.args.block in
     let p : c.caches.p < m.processors = omega arith in
     let end = c.window-start.result + c.ways-ways.result in
     let inside : end ≤ length c.args.lines.now = omega (arith, c.window-start.ensures.within p) in
-    let here = first_hit (holds_block c.args.block) c.args.lines.now c.loop-i.i end _ (omega arith) inside c.if-lies-in.ensures in
+    let here = first_hit (holds_block c.args.block) c.args.lines.now c.loop-i.i end _ (omega arith) inside c.if-lies_in.ensures in
     let some : line_of m c.args.lines.now c.caches.p c.args.block ≡ Some c.loop-i.i = sym c.loop-i.invariant.1 ∙ here in
     let hit : test c.caches.p ≡ true = grind (arith, nat_tests, some) in
     sym (lowest_hit test c.caches.p m.processors p hit) ∙ c.caches.invariant.1

@@ -6,17 +6,17 @@ use Rattle.text.proofs.Joins.{behind, behind_as}
 use Rattle.text.proofs.Joins.{number_alone}
 use Rattle.text.proofs.lines.put_refusal.Goals as goal
 
-pub returns-in-ok-put-last : goal.returns-in-ok-put-last
-returns-in-ok-put-last c =
+pub returns-in_ok-put_last-in-Record : goal.returns-in_ok-put_last-in-Record
+returns-in_ok-put_last-in-Record c =
     let index = c.in-Record.index in
-    let last = c.in-ok-put-last.ensures ∙ ap (λ t. vec_items c.put-field-in-Record.new.out ++ last_field t) c.decimal.ensures in
-    behind _ (field (codes "TRACE")) _ c.in-ok-put-field.ensures (behind _ (field (codes "13")) _ c.in-ok-put-field-2.ensures last)
+    let last = c.in_ok-put_last-in-Record.ensures ∙ ap (λ t. vec_items c.put_field-in-Record.new.out ++ last_field t) c.decimal.ensures in
+    behind _ (field (codes "TRACE")) _ c.in_ok-put_field.ensures (behind _ (field (codes "13")) _ c.in_ok-put_field-in-Record.ensures last)
     ∙ ap (λ e. vec_items c.args.out.now ++ refusal_line e) (sym c.in-Record.is)
 
-pub returns-in-ok-put-last-2 : goal.returns-in-ok-put-last-2
-returns-in-ok-put-last-2 c =
+pub returns-in_ok-put_last-in_default : goal.returns-in_ok-put_last-in_default
+returns-in_ok-put_last-in_default c =
     let e = c.args.refusal in
-    let last = c.in-ok-put-last-2.ensures
-    ∙ ap (λ t. vec_items c.put-field.new.out ++ last_field t) (c.decimal-in-default.ensures ∙ ap (fixed 10 2) c.number.ensures) in
-    behind _ (field (codes "TRACE")) _ c.in-ok-put-field.ensures last
-    ∙ ap (λ t. vec_items c.args.out.now ++ t) (number_alone e c.in-default.not-Record)
+    let last = c.in_ok-put_last-in_default.ensures
+    ∙ ap (λ t. vec_items c.put_field.new.out ++ last_field t) (c.decimal-in_default.ensures ∙ ap (fixed 10 2) c.number.ensures) in
+    behind _ (field (codes "TRACE")) _ c.in_ok-put_field.ensures last
+    ∙ ap (λ t. vec_items c.args.out.now ++ t) (number_alone e c.in_default.not-Record)

@@ -9,8 +9,8 @@ pub returns : goal.returns
 unfolding line_of
 returns c =
     let step = c.args.step.now in
-    let last = c.in-ok-put-answer.ensures ∙ ap (λ s. vec_items c.put-field-4.new.out ++ shown_line s) c.shown-of.ensures in
-    behind_as _ field c.decimal.result (fixed 10 7 step.number) _ c.decimal.ensures c.in-ok-put-field.ensures
-    (behind_as _ field c.decimal-2.result (fixed 10 1 step.request.processor) _ c.decimal-2.ensures c.in-ok-put-field-2.ensures
-    (behind_as _ field c.command-name.result (command_named step.request.command) _ c.command-name.ensures c.in-ok-put-field-3.ensures
-    (behind_as _ field c.hexadecimal.result (fixed 16 8 step.request.address) _ c.hexadecimal.ensures c.in-ok-put-field-4.ensures last)))
+    let last = c.in_ok-put_answer.ensures ∙ ap (λ s. vec_items c.put_field-4.new.out ++ shown_line s) c.shown_of.ensures in
+    behind_as _ field c.decimal.result (fixed 10 7 step.number) _ c.decimal.ensures c.in_ok-put_field.ensures
+    (behind_as _ field c.decimal-2.result (fixed 10 1 step.request.processor) _ c.decimal-2.ensures c.in_ok-put_field-2.ensures
+    (behind_as _ field c.command_name.result (command_named step.request.command) _ c.command_name.ensures c.in_ok-put_field-3.ensures
+    (behind_as _ field c.hexadecimal.result (fixed 16 8 step.request.address) _ c.hexadecimal.ensures c.in_ok-put_field-4.ensures last)))

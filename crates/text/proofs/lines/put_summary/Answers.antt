@@ -9,5 +9,5 @@ pub returns : goal.returns
 unfolding summary_lines
 returns c =
     let s = c.args.summary.now in
-    behind _ (field (codes "TOTAL")) _ c.in-ok-put-field.ensures
-    (behind_as _ last_field c.decimal.result (fixed 10 12 s.cycles) _ c.decimal.ensures c.in-ok-put-last.ensures c.in-ok-put-stuck.ensures)
+    behind _ (field (codes "TOTAL")) _ c.in_ok-put_field.ensures
+    (behind_as _ last_field c.decimal.result (fixed 10 12 s.cycles) _ c.decimal.ensures c.in_ok-put_last.ensures c.in_ok-put_stuck.ensures)

@@ -7,4 +7,4 @@ use Rattle.text.proofs.lines.put_text.Goals as goal
 
 pub returns : goal.returns
 returns c =
-    behind (vec_items c.args.out.now) c.args.text.now (c.args.end ∷ []) c.in-ok-extend-from-slice.ensures.items c.in-ok-push.ensures.items
+    behind (vec_items c.args.out.now) c.args.text.now (c.args.end ∷ []) c.in_ok-extend_from_slice.ensures.items c.in_ok-push.ensures.items

@@ -6,16 +6,16 @@ use Rattle.trace.proofs.record.decode.Goals as goal
 pub returns : goal.returns
 returns c =
     let bs = c.args.bytes.now in
-    let command = c.in-ok-command.command in
+    let command = c.in_ok-command.command in
     let p = get_or bs 4 0 in
     let long : length bs ≡ 16 = omega arith in
     let z6 : get_or bs 6 0 ≡ 0 = omega arith in
     let z7 : get_or bs 7 0 ≡ 0 = omega arith in
-    let told = c.in-ok-command.ensures ∙ ap (command_for (get_or bs 5 0)) c.number-at.ensures in
+    let told = c.in_ok-command.ensures ∙ ap (command_for (get_or bs 5 0)) c.number_at.ensures in
     record {
       value = search rules;
       back =
-          ap (λ s. encoded (with_command s p c.number-at-2.result command)) c.number-at-3.ensures
-          ∙ ap (λ a. encoded (with_command (number_at bs 0) p a command)) c.number-at-2.ensures
-          ∙ encode_met bs (λ i. let fits = c.type-inv.bytes i in omega (arith, fits)) command long z6 z7 (sym told);
+          ap (λ s. encoded (with_command s p c.number_at-2.result command)) c.number_at-3.ensures
+          ∙ ap (λ a. encoded (with_command (number_at bs 0) p a command)) c.number_at-2.ensures
+          ∙ encode_met bs (λ i. let fits = c.type_inv.bytes i in omega (arith, fits)) command long z6 z7 (sym told);
     }

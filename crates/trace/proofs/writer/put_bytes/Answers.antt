@@ -8,5 +8,5 @@ returns c =
     let new = c.args.new.now in
     let bytes = c.args.output.now in
     let wide : at + length new - at ≡ length new = omega arith in
-    ap (λ ys. take at bytes ++ (ys ++ drop (at + length new - at) (drop at bytes))) c.copy-from-slice.ensures.after
+    ap (λ ys. take at bytes ++ (ys ++ drop (at + length new - at) (drop at bytes))) c.copy_from_slice.ensures.after
     ∙ ap (λ rest. take at bytes ++ (new ++ rest)) (ap (λ k. drop k (drop at bytes)) wide ∙ drop-drop (length new) at bytes ∙ ap (λ k. drop k bytes) (add_comm at (length new)))

@@ -9,7 +9,7 @@ returns-in-None c =
     let told = c.in-Some.ensures in
     record {
       value = search rules;
-      last-bytes = last_part bs t.size told.held t.processors told.back;
+      last_bytes = last_part bs t.size told.held t.processors told.back;
       sound = search rules;
       whole = part_whole bs t.size told.held told.whole;
       few = search rules;

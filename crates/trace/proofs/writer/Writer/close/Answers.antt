@@ -10,11 +10,11 @@ returns c =
     let w = c.args.self in
     let out = c.args.output.now in
     let fits : ltb (length out) (w.count * 16 + 8) ≡ false = grind (arith, nat_tests) in
-    let placed = c.put-bytes.ensures ∙ ap (written out (w.count * 16)) c.trailer-bytes.ensures in
+    let placed = c.put_bytes.ensures ∙ ap (written out (w.count * 16)) c.trailer_bytes.ensures in
     record {
       answer = rw fits refl;
       output = rw fits placed;
-      reads-back = λ rs h. (
+      reads_back = λ rs h. (
         refl,
         ap (λ bytes. trace_of (take (w.count * 16 + 8) bytes)) placed
             ∙ closed_reads w.processors w.count w.stamp out rs w.few w.served.0 w.served.1 h,
