@@ -17,12 +17,12 @@ returns g c =
     let out = vec_items c.args.out.now in
     let fit = c.requires.fit in
     let fits : tables_fit geometry.measures (length lines) (length locks) ≡ true = grind (arith, nat_tests, fit.0, fit.1) in
-    let made = c.make-new.ensures in
-    let after = c.make-new.new in
-    let old = c.at-rest-cluster.result in
+    let made = c.make_new.ensures in
+    let after = c.make_new.new in
+    let old = c.at_rest-cluster.result in
     let at : after.self.geometry ≡ geometry = made.geometry ∙ ap (λ b. cond b geometry old.geometry) fits in
     let processors : after.self.processors ≡ all_resting = made.processors ∙ ap (λ b. cond b all_resting old.processors) fits in
     let new-lines : after.lines ≡ replicate (length lines) blank_line = made.lines ∙ ap (λ b. cond b (replicate (length lines) blank_line) lines) fits in
     let new-locks : after.locks ≡ replicate (length locks) blank_entry = made.locks ∙ ap (λ b. cond b (replicate (length locks) blank_entry) locks) fits in
-    c.in-ok-put-run-over.ensures
+    c.in_ok-put_run_over.ensures
     ∙ (λ k. out ++ all_lines (at k).measures recs (started recs (processors k) (new-lines k) (new-locks k) mem))

@@ -14,11 +14,11 @@ returns c =
     let t = c.args.trace.now in
     let recs = records_of t.records.now in
     let out = vec_items c.args.out.now in
-    let m = c.listing-geometry-geometry.result.measures in
-    let same : m ≡ listing_measures t.processors = c.listing-geometry-geometry.ensures ∙ ap listing_measures c.processors.ensures in
-    let rows : length c.deref-mut.result.now ≡ line_count m = search rules in
-    let entries : length c.deref-mut-2.result.now ≡ lock_count m = search rules in
+    let m = c.listing_geometry-geometry.result.measures in
+    let same : m ≡ listing_measures t.processors = c.listing_geometry-geometry.ensures ∙ ap listing_measures c.processors.ensures in
+    let rows : length c.deref_mut.result.now ≡ line_count m = search rules in
+    let entries : length c.deref_mut-2.result.now ≡ lock_count m = search rules in
     let words : c.new-memory.result.words.now ≡ replicate 1024 0 = c.new-memory.ensures.words in
-    c.in-ok-put-new-run.ensures
+    c.in_ok-put_new_run.ensures
     ∙ (λ k. out ++ all_lines (same k) recs (started recs all_resting (replicate ((rows ∙ ap line_count same) k) blank_line)
     (replicate ((entries ∙ ap lock_count same) k) blank_entry) (table_of (words k))))

@@ -9,8 +9,8 @@ use Rattle.text.proofs.Joins.{behind}
 use Rattle.run.proofs.Turns.{many, at_first, settled_start}
 use Rattle.run.proofs.listing.put_run_over.Goals as goal
 
-pub put-steps-requires : goal.put-steps-requires
-put-steps-requires g c =
+pub put_steps-requires : goal.put_steps-requires
+put_steps-requires g c =
     let t = c.args.trace.now in
     let bytes = t.records.now in
     let recs = records_of bytes in
@@ -41,9 +41,9 @@ returns g c =
     let start =
     at_first t.processors bytes c.requires.sound c.requires.served run cluster.processors c.args.lines.now c.args.locks.now mem
     told.next told.steps told.cycles in
-    let steps = c.in-ok-put-steps.ensures in
+    let steps = c.in_ok-put_steps.ensures in
     let out = vec_items c.args.out.now in
     let end = steps.after ∙ ap (ran m recs) start in
     behind out (lines_of (steps_of m recs (started recs cluster.processors c.args.lines.now c.args.locks.now mem))) _
     (steps.lines ∙ ap (λ x. out ++ lines_of (steps_of m recs x)) start)
-    (c.in-ok-put-summary.ensures ∙ ap (λ x. vec_items c.put-steps.new.out ++ summary_lines x) (c.summary.ensures ∙ ap (summary_of m recs) end))
+    (c.in_ok-put_summary.ensures ∙ ap (λ x. vec_items c.put_steps.new.out ++ summary_lines x) (c.summary.ensures ∙ ap (summary_of m recs) end))

@@ -33,7 +33,7 @@ loop-step-preserved g c =
     let further = going_on m recs first s s' inv.0.0 inv.0.1 step value after less told.cheap in
     let rest = lines_of (steps_from m recs further.rest s') in
     let was = vec_items here.out in
-    let lines = ap (λ l. l ++ rest) c.in-ok-put-step.ensures ∙ append_assoc was (line_of step) rest
+    let lines = ap (λ l. l ++ rest) c.in_ok-put_step.ensures ∙ append_assoc was (line_of step) rest
     ∙ ap (λ steps. was ++ lines_of steps) (sym further.head) ∙ inv.0.2 in
     ((further.rest, further.going, lines), told.settled, told.geometry ∙ inv.2)
 
@@ -48,7 +48,7 @@ returns g c =
     let s = state_of recs here.run here.cluster.processors here.lines here.locks (g.M.Memory.model here.memory) in
     let last = c.step.new in
     let s' = state_of recs last.self last.cluster.processors last.lines last.locks (g.M.Memory.model last.memory) in
-    let told = c.in-default.ensures in
+    let told = c.in_default.ensures in
     let value : None ≡ option_map (shown m recs s) (due m recs s) = rw (← same) told.value in
     let none = no_step m recs first s inv.0.0 inv.0.1 value in
     let stays : s' ≡ s = (let after : s' ≡ when_some (due m recs s) (stepped m recs s) s = rw (← same) told.after in after ∙ ap (λ o. when_some o (stepped m recs s) s) none) in

@@ -6,8 +6,8 @@ use Rattle.run.proofs.Ends.{start_few}
 use Rattle.run.proofs.Turns.{many, at_first, settled_start}
 use Rattle.run.proofs.running.run_read.Goals as goal
 
-pub run-to-end-requires : goal.run-to-end-requires
-run-to-end-requires g c =
+pub run_to_end-requires : goal.run_to_end-requires
+run_to_end-requires g c =
     let t = c.args.trace.now in
     let bytes = t.records.now in
     let recs = records_of bytes in
@@ -37,14 +37,14 @@ returns g c =
     let start =
     at_first t.processors bytes c.requires.sound c.requires.served run cluster.processors c.args.lines.now c.args.locks.now mem
     told.next told.steps told.cycles in
-    let end = c.run-to-end.ensures.after ∙ ap (ran m recs) start in
+    let end = c.run_to_end.ensures.after ∙ ap (ran m recs) start in
     record {
       answer = c.summary.ensures ∙ ap (summary_of m recs) end;
       processors = ap (λ x. x.processors) end;
       lines = ap (λ x. x.lines) end;
       locks = ap (λ x. x.locks) end;
       memory = ap (λ x. x.memory) end;
-      ended = sym (ap (due m recs) end) ∙ c.run-to-end.ensures.ended;
-      geometry = c.run-to-end.ensures.geometry;
-      kept = c.run-to-end.ensures.kept;
+      ended = sym (ap (due m recs) end) ∙ c.run_to_end.ensures.ended;
+      geometry = c.run_to_end.ensures.geometry;
+      kept = c.run_to_end.ensures.kept;
     }

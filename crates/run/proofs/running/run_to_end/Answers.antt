@@ -41,7 +41,7 @@ returns g c =
     let s = state_of recs here.run here.cluster.processors here.lines here.locks (g.M.Memory.model here.memory) in
     let last = c.step.new in
     let s' = state_of recs last.self last.cluster.processors last.lines last.locks (g.M.Memory.model last.memory) in
-    let told = c.in-default.ensures in
+    let told = c.in_default.ensures in
     let value : None ≡ option_map (shown m recs s) (due m recs s) = rw (← same) told.value in
     let none = no_step m recs first s inv.0.0 inv.0.1 value in
     let stays : s' ≡ s = (let after : s' ≡ when_some (due m recs s) (stepped m recs s) s = rw (← same) told.after in after ∙ ap (λ o. when_some o (stepped m recs s) s) none) in

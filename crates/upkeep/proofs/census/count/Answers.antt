@@ -4,7 +4,7 @@ use Rattle.protocol.specs.Lines.{no_line}
 use Rattle.upkeep.specs.Counting.{place_of, stands, count_of}
 use Rattle.upkeep.proofs.Counts.{count_more, count_ends}
 use Rattle.upkeep.proofs.census.count.Goals as goal
-use Rattle.upkeep.proofs.census.count.Goals.{then-place-of-place, else-place-of-place}
+use Rattle.upkeep.proofs.census.count.Goals.{then-place_of-place, else-place_of-place}
 
 pub loop-i-preserved : goal.loop-i-preserved
 loop-i-preserved c =
@@ -14,13 +14,13 @@ loop-i-preserved c =
     let n = c.loop-i.n in
     let few = c.loop-i.invariant.1 in
     let rest = count_of (stands place) (drop (i + 1) lines) in
-    let same = c.place-of.ensures in
-    elim c.if-place-of-place.branch [
-      | then-place-of-place w ↦
-          let here : stands place (get_or lines i no_line) ≡ true = let met = w.if-place-of-place.true in grind (arith, nat_tests, same) in
+    let same = c.place_of.ensures in
+    elim c.if-place_of-place.branch [
+      | then-place_of-place w ↦
+          let here : stands place (get_or lines i no_line) ≡ true = let met = w.if-place_of-place.true in grind (arith, nat_tests, same) in
           rw w.n-is (sym (count_more (stands place) lines i n true c.loop-i-test.true here) ∙ c.loop-i.invariant.0, omega (arith, few))
-      | else-place-of-place w ↦
-          let not-here : stands place (get_or lines i no_line) ≡ false = let met = w.if-place-of-place.false in grind (arith, nat_tests, same) in
+      | else-place_of-place w ↦
+          let not-here : stands place (get_or lines i no_line) ≡ false = let met = w.if-place_of-place.false in grind (arith, nat_tests, same) in
           let none : n + rest ≡ n + 0 + rest = omega arith in
           rw w.n-is (none ∙ sym (count_more (stands place) lines i n false c.loop-i-test.true not-here) ∙ c.loop-i.invariant.0, omega (arith, few))
     ]

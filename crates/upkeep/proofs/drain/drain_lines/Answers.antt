@@ -14,8 +14,8 @@ returns-in-Err g c =
     record {
       answer = ap (λ x. x.answer) d;
       lines = ap (λ x. x.lines) d;
-      memory = c.write-back.ensures.after ∙ refused_keeps mem (get_or here.lines here.i no_line) c.in-Err.refusal (sym stop) ∙ ap (λ x. x.memory) d;
-      kept = c.write-back.ensures.kept ∙ here.invariant.1;
+      memory = c.write_back.ensures.after ∙ refused_keeps mem (get_or here.lines here.i no_line) c.in-Err.refusal (sym stop) ∙ ap (λ x. x.memory) d;
+      kept = c.write_back.ensures.kept ∙ here.invariant.1;
       few = tt;
     }
 
@@ -27,8 +27,8 @@ loop-i-preserved g c =
     let most = here.invariant.2 in
     let inside : here.i < length here.lines = omega (arith, c.loop-i-test.true, here.auto.lines) in
     let after = set here.lines here.i blank_line in (
-      ap (λ x. onto (take (here.i + 1) after) (drain_from (here.blocks + c.in-Ok.n) (drop (here.i + 1) after) x)) c.write-back.ensures.after ∙ drain_more here.lines here.i here.blocks mem c.in-Ok.n inside told.answer ∙ here.invariant.0,
-      c.write-back.ensures.kept ∙ here.invariant.1,
+      ap (λ x. onto (take (here.i + 1) after) (drain_from (here.blocks + c.in-Ok.n) (drop (here.i + 1) after) x)) c.write_back.ensures.after ∙ drain_more here.lines here.i here.blocks mem c.in-Ok.n inside told.answer ∙ here.invariant.0,
+      c.write_back.ensures.kept ∙ here.invariant.1,
       let one = told.few in omega (arith, most, one),
     )
 

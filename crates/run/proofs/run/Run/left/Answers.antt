@@ -6,7 +6,7 @@ use Rattle.run.specs.Running.{how_many}
 use Rattle.run.proofs.Falls.{many_more}
 use Rattle.run.proofs.Turns.{many}
 use Rattle.run.proofs.run.Run.left.Goals as goal
-use Rattle.run.proofs.run.Run.left.Goals.{then-is-unfinished, else-is-unfinished}
+use Rattle.run.proofs.run.Run.left.Goals.{then-is_unfinished, else-is_unfinished}
 
 pub loop-i-init : goal.loop-i-init
 loop-i-init c =
@@ -26,12 +26,12 @@ loop-i-preserved c =
     let so_far = c.loop-i.left in
     let few = c.loop-i.invariant.1 in
     let rest = how_many test (i + 1) (records_in bytes - (i + 1)) in
-    elim c.if-is-unfinished.branch [
-      | then-is-unfinished w ↦
-          let one = many_more test i (records_in bytes) so_far true below (sym w.if-is-unfinished.ensures) in
+    elim c.if-is_unfinished.branch [
+      | then-is_unfinished w ↦
+          let one = many_more test i (records_in bytes) so_far true below (sym w.if-is_unfinished.ensures) in
           rw w.left-is (sym one ∙ c.loop-i.invariant.0, omega (arith, few))
-      | else-is-unfinished w ↦
-          let one = many_more test i (records_in bytes) so_far false below (sym w.if-is-unfinished.ensures) in
+      | else-is_unfinished w ↦
+          let one = many_more test i (records_in bytes) so_far false below (sym w.if-is_unfinished.ensures) in
           let none : so_far + rest ≡ so_far + 0 + rest = omega arith in
           rw w.left-is (none ∙ sym one ∙ c.loop-i.invariant.0, omega (arith, few))
     ]

@@ -10,8 +10,8 @@ use Rattle.run.proofs.Turns.{due_none, due_some, request_same, request_there, un
 use Rattle.run.proofs.Falls.{no_such_processor, step_falls, step_after, shown_due, cost_low}
 use Rattle.run.proofs.run.Run.step.Goals as goal
 
-pub returns-in-default : goal.returns-in-default
-returns-in-default g c =
+pub returns-in_default : goal.returns-in_default
+returns-in_default g c =
     let t = c.args.trace.now in
     let bytes = t.records.now in
     let run = c.args.self.now in
@@ -19,7 +19,7 @@ returns-in-default g c =
     let m = cluster.geometry.measures in
     let waits = awaited m cluster.processors in
     let s = state_of (records_of bytes) run cluster.processors c.args.lines.now c.args.locks.now (g.M.Memory.model c.args.memory.now) in
-    let tells : Earliest waits run.next (records_in bytes) None = rw (← c.count.ensures) c.in-default.ensures.tells in
+    let tells : Earliest waits run.next (records_in bytes) None = rw (← c.count.ensures) c.in_default.ensures.tells in
     let none = due_none t.processors bytes c.requires.sound c.requires.served run.next run.eight c.requires.settled m s refl tells in
     record {
       value = rw none refl;
@@ -31,13 +31,13 @@ returns-in-default g c =
       less = tt;
     }
 
-pub returns-in-default-record : goal.returns-in-default-record
-returns-in-default-record g c =
+pub returns-in_default-record : goal.returns-in_default-record
+returns-in_default-record g c =
     let t = c.args.trace.now in
     let bytes = t.records.now in
     let below : get_or c.args.self.now.next c.in-Some.processor 0 < records_in bytes
     = let less = c.in-Some.ensures.tells.2 in omega (arith, less, c.count.ensures) in
-    absurd (request_there t.processors bytes c.requires.sound c.requires.served _ below c.in-default-record.ensures.value)
+    absurd (request_there t.processors bytes c.requires.sound c.requires.served _ below c.in_default-record.ensures.value)
 
 pub returns : goal.returns
 returns g c =
