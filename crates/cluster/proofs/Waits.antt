@@ -2,7 +2,7 @@
 use Rattle.std.proofs.Common.{◌≡◌, ℕ, zero, suc, ◌+◌, ◌<◌, true, cond, List, [], ◌∷◌, length, get_or, set, is_some, None, arith}
 use Rattle.cluster.specs.declared.cluster.Processor.{Processor}
 use Rattle.cluster.specs.Making.{resting}
-use Rattle.cluster.specs.Waiting.{idle, waiting_for}
+use Rattle.cluster.specs.Waiting.{not_waiting, idle, waiting_for}
 
 pub waits_more : (n : ℕ) (ps : List Processor) (p block : ℕ) (q : Processor) → p < n → p < length ps
     → (get_or ps p resting).waits_for ≡ None → idle n (set ps p (waiting_for q block)) < idle n ps
@@ -11,4 +11,12 @@ waits_more zero (x ∷ xs) p block q k h e = omega arith
 waits_more (suc n) (x ∷ xs) zero block q k h e = rw e (omega arith)
 waits_more (suc n) (x ∷ xs) (suc p) block q k h e =
     let less : idle n (set xs p (waiting_for q block)) < idle n xs = waits_more n xs p block q (omega arith) (omega arith) e in
+    omega arith
+
+pub waits_more_of_all : (ps : List Processor) (p block : ℕ) (q : Processor) → p < length ps
+    → (get_or ps p resting).waits_for ≡ None → not_waiting (set ps p (waiting_for q block)) < not_waiting ps
+waits_more_of_all [] p block q h e = omega arith
+waits_more_of_all (x ∷ xs) zero block q h e = rw e (omega arith)
+waits_more_of_all (x ∷ xs) (suc p) block q h e =
+    let less : not_waiting (set xs p (waiting_for q block)) < not_waiting xs = waits_more_of_all xs p block q (omega arith) e in
     omega arith

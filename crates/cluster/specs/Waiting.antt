@@ -5,16 +5,26 @@ use Rattle.protocol.specs.declared.answer.Answer.TheVariants.{Done, Wait}
 use Rattle.protocol.specs.declared.measures.Measures.{Measures}
 use Rattle.protocol.specs.declared.refusal.Refusal.{Refusal}
 use Rattle.cluster.specs.declared.cluster.Processor.{Processor}
+use Rattle.cluster.specs.declared.cluster.Cluster.{Cluster}
 use Rattle.cluster.specs.Making.{resting}
 use Rattle.cluster.specs.Tables.{map_from}
 
 -- the block that a processor waits for; one that the geometry does not have never waits
-abbrev pub awaited : Measures → List Processor → ℕ → Option ℕ
-awaited m ps processor = cond (nat_lt processor m.processors) (get_or ps processor resting).waits_for None
+abbrev pub awaited : Cluster → ℕ → Option ℕ
+awaited c processor = cond (nat_lt processor c.geometry.measures.processors) (get_or c.processors processor resting).waits_for None
+
+-- the same, told by the measures and the processors' records
+abbrev pub awaited_in : Measures → List Processor → ℕ → Option ℕ
+awaited_in m ps processor = cond (nat_lt processor m.processors) (get_or ps processor resting).waits_for None
 
 pub record Ready (ps : List Processor) (processor : ℕ) : Type 0 where
   pub listed : processor < length ps
   pub waits_not : (get_or ps processor resting).waits_for ≡ None
+
+-- how many do not wait
+abbrev pub not_waiting : List Processor → ℕ
+not_waiting [] = 0
+not_waiting (p ∷ ps) = cond (is_some p.waits_for) 0 1 + not_waiting ps
 
 -- how many of the first n do not wait
 abbrev pub idle : ℕ → List Processor → ℕ
@@ -43,8 +53,14 @@ raised ways p = record { turn = (p.turn % ways + 1) % ways; waits_for = p.waits_
 abbrev pub turn_raised : ℕ → List Processor → ℕ → List Processor
 turn_raised ways ps processor = slice_set ps processor (raised ways (slice_index_or ps processor resting))
 
--- a command that waits leaves fewer of n processors that do not
-abbrev pub WaitsMore : ℕ → Result Answer Refusal → List Processor → List Processor → Type 0
-WaitsMore n (Ok (Done done)) before after = Unit {0}
-WaitsMore n (Ok (Wait hit)) before after = idle n after < idle n before
-WaitsMore n (Err e) before after = Unit {0}
+-- a command that waits leaves fewer processors that do not
+abbrev pub WaitsMore : Result Answer Refusal → List Processor → List Processor → Type 0
+WaitsMore (Ok (Done done)) before after = Unit {0}
+WaitsMore (Ok (Wait hit)) before after = not_waiting after < not_waiting before
+WaitsMore (Err e) before after = Unit {0}
+
+-- the same of the first n processors
+abbrev pub FewerIdle : ℕ → Result Answer Refusal → List Processor → List Processor → Type 0
+FewerIdle n (Ok (Done done)) before after = Unit {0}
+FewerIdle n (Ok (Wait hit)) before after = idle n after < idle n before
+FewerIdle n (Err e) before after = Unit {0}

@@ -5,7 +5,7 @@ ghost use Rattle.protocol.specs.Places.{line_count};
 ghost use Rattle.cluster.specs.Cases.{Sound};
 ghost use Rattle.cluster.specs.Making.{tables_fit};
 ghost use Rattle.cluster.specs.Rule.{swapping, supplying, proceeding, meeting, command_rule};
-ghost use Rattle.cluster.specs.Waiting.{Ready, WaitsMore};
+ghost use Rattle.cluster.specs.Waiting.{Ready, WaitsMore, FewerIdle};
 
 use crate::case::Case;
 use crate::cluster::Cluster;
@@ -36,7 +36,8 @@ impl Cluster {
         ensures memory { M.Memory.model memory.new ≡ (swapping self.old.geometry.measures self.old.processors lines.old locks.old (M.Memory.model memory.old) case.now supply).memory }
         ensures geometry { self.new.geometry ≡ self.old.geometry }
         ensures kept { M.Memory.standing memory.new ≡ M.Memory.standing memory.old }
-        ensures waiting { WaitsMore self.old.geometry.measures.processors result self.old.processors self.new.processors }
+        ensures waiting { WaitsMore result self.old.processors self.new.processors }
+        ensures idle { FewerIdle self.old.geometry.measures.processors result self.old.processors self.new.processors }
         ensures cost { IfOk result (λ a. cycles_in a ≤ 4000) }
     {
         let taken = self.taken(lines, case);
@@ -61,7 +62,8 @@ impl Cluster {
         ensures memory { M.Memory.model memory.new ≡ (supplying self.old.geometry.measures self.old.processors lines.old locks.old (M.Memory.model memory.old) case.now).memory }
         ensures geometry { self.new.geometry ≡ self.old.geometry }
         ensures kept { M.Memory.standing memory.new ≡ M.Memory.standing memory.old }
-        ensures waiting { WaitsMore self.old.geometry.measures.processors result self.old.processors self.new.processors }
+        ensures waiting { WaitsMore result self.old.processors self.new.processors }
+        ensures idle { FewerIdle self.old.geometry.measures.processors result self.old.processors self.new.processors }
         ensures cost { IfOk result (λ a. cycles_in a ≤ 4000) }
     {
         let supply = fetch(&self.geometry, lines, memory, case)?;
@@ -85,7 +87,8 @@ impl Cluster {
         ensures memory { M.Memory.model memory.new ≡ (proceeding self.old.geometry.measures self.old.processors lines.old locks.old (M.Memory.model memory.old) case.now).memory }
         ensures geometry { self.new.geometry ≡ self.old.geometry }
         ensures kept { M.Memory.standing memory.new ≡ M.Memory.standing memory.old }
-        ensures waiting { WaitsMore self.old.geometry.measures.processors result self.old.processors self.new.processors }
+        ensures waiting { WaitsMore result self.old.processors self.new.processors }
+        ensures idle { FewerIdle self.old.geometry.measures.processors result self.old.processors self.new.processors }
         ensures cost { IfOk result (λ a. cycles_in a ≤ 4000) }
     {
         if let Some(holder) = case.lock_hit() {
@@ -109,7 +112,8 @@ impl Cluster {
         ensures memory { M.Memory.model memory.new ≡ (meeting self.old.geometry.measures self.old.processors lines.old locks.old (M.Memory.model memory.old) request).memory }
         ensures geometry { self.new.geometry ≡ self.old.geometry }
         ensures kept { M.Memory.standing memory.new ≡ M.Memory.standing memory.old }
-        ensures waiting { WaitsMore self.old.geometry.measures.processors result self.old.processors self.new.processors }
+        ensures waiting { WaitsMore result self.old.processors self.new.processors }
+        ensures idle { FewerIdle self.old.geometry.measures.processors result self.old.processors self.new.processors }
         ensures cost { IfOk result (λ a. cycles_in a ≤ 4000) }
     {
         let case = self.case_of(lines, locks, memory.blocks(), request)?;
@@ -148,7 +152,8 @@ impl Cluster {
         ensures memory { M.Memory.model memory.new ≡ (command_rule self.old.geometry.measures self.old.processors lines.old locks.old (M.Memory.model memory.old) request).memory }
         ensures geometry { self.new.geometry ≡ self.old.geometry }
         ensures kept { M.Memory.standing memory.new ≡ M.Memory.standing memory.old }
-        ensures waiting { WaitsMore self.old.geometry.measures.processors result self.old.processors self.new.processors }
+        ensures waiting { WaitsMore result self.old.processors self.new.processors }
+        ensures idle { FewerIdle self.old.geometry.measures.processors result self.old.processors self.new.processors }
         ensures cost { IfOk result (λ a. cycles_in a ≤ 4000) }
     {
         if !self.tables_fit(lines, locks) {

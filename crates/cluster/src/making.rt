@@ -37,7 +37,7 @@ impl Cluster {
 
     // The block that a processor waits for, if it waits.
     pub fn waits_for(&self, processor: u8) -> Option<u32>
-        ensures { result ≡ awaited self.now.geometry.measures self.now.processors processor }
+        ensures { result ≡ awaited self.now processor }
     {
         if processor >= self.geometry.processors() {
             return None;

@@ -3,7 +3,7 @@ ghost use Rattle.std.specs.Prelude.{◌≡◌, ◌<◌, length, IfSome, slice_in
 ghost use Rattle.cluster.specs.Locks.{waited_for};
 ghost use Rattle.cluster.specs.Making.{resting};
 ghost use Rattle.cluster.specs.Settling.{ul_sent, locks_settled, woken_by};
-ghost use Rattle.cluster.specs.Waiting.{Ready, idle, woken, all_woken, waiting_for};
+ghost use Rattle.cluster.specs.Waiting.{Ready, not_waiting, idle, woken, all_woken, waiting_for};
 
 use crate::case::{Case, takes_lock};
 use crate::cluster::{Cluster, Processor};
@@ -34,7 +34,8 @@ impl Cluster {
         ensures locks { locks.new ≡ waited_for self.old.geometry.measures locks.old case.now.processor case.now.block }
         ensures geometry { self.new.geometry ≡ self.old.geometry }
         ensures processors { self.new.processors ≡ slice_set self.old.processors case.now.processor (waiting_for (slice_index_or self.old.processors case.now.processor resting) case.now.block) }
-        ensures fewer { idle self.old.geometry.measures.processors self.new.processors < idle self.old.geometry.measures.processors self.old.processors }
+        ensures fewer { not_waiting self.new.processors < not_waiting self.old.processors }
+        ensures fewer_idle { idle self.old.geometry.measures.processors self.new.processors < idle self.old.geometry.measures.processors self.old.processors }
     {
         mark_waited(&self.geometry, locks, case.processor, case.block);
         self.processors[case.processor as usize].waits_for = Some(case.block);

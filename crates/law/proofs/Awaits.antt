@@ -22,7 +22,7 @@ use Rattle.cluster.specs.Refusing.{entry_used}
 use Rattle.cluster.specs.Rule.{Outcome, waiting, finishing}
 use Rattle.cluster.specs.Settling.{releases_lock, ul_sent, woken_by}
 use Rattle.cluster.specs.Tables.{map_from}
-use Rattle.cluster.specs.Waiting.{awaited, waiting_for, waits_for, woken, all_woken, raised, turn_raised}
+use Rattle.cluster.specs.Waiting.{awaited_in, waiting_for, waits_for, woken, all_woken, raised, turn_raised}
 use Rattle.law.specs.Ledger.{Ledger, entered, released, command_fed, done_by}
 use Rattle.law.proofs.Shapes.{Shape, refused, waited, finished, Waited, Finished, Admitted, met}
 
@@ -112,7 +112,7 @@ ul_quiet m locks q (UW word) e = refl
 ul_quiet m locks q U e = refl
 
 module _ (m : Measures) (ps : List Processor) (lines : List Line) (locks : List LockEntry) (mem : Mem) (q : Request) (l : Ledger)
-    (eight : length ps ≡ 8) (few : m.processors ≤ 8) (agree : (r : ℕ) → awaited m ps r ≡ l.waits r) where
+    (eight : length ps ≡ 8) (few : m.processors ≤ 8) (agree : (r : ℕ) → awaited_in m ps r ≡ l.waits r) where
   abbrev listed : List Processor → ℕ → Option ℕ
   listed xs r = cond (ltb r m.processors) (wait_at xs r) None
 
@@ -126,7 +126,7 @@ module _ (m : Measures) (ps : List Processor) (lines : List Line) (locks : List 
       by_bools false false w = refl
 
   by_done : (c : Case) (taken : Option Taken) (effect : Effect) → c ≡ met m ps lines locks mem q effect → (r : ℕ)
-      → awaited m (processors_after m ps locks c taken) r
+      → awaited_in m (processors_after m ps locks c taken) r
       ≡ (done_by q.processor q.address (ul_sent c.command locks c.entry) q.command l).waits r
   by_done c taken effect is r =
       let b = ul_sent q.command locks (entry_used m locks q) in
@@ -141,11 +141,11 @@ module _ (m : Measures) (ps : List Processor) (lines : List Line) (locks : List 
       ∙ ap (λ x. (done_by q.processor q.address x q.command l).waits r) (sym same)
 
   by_wait : (c : Case) (effect : Effect) (holder : ℕ) → c ≡ met m ps lines locks mem q effect → leb m.processors q.processor ≡ false → (r : ℕ)
-      → awaited m (waiting m ps lines locks mem c holder).processors r ≡ cond (eqb r q.processor) (Some (q.address / 4)) (l.waits r)
+      → awaited_in m (waiting m ps lines locks mem c holder).processors r ≡ cond (eqb r q.processor) (Some (q.address / 4)) (l.waits r)
   by_wait c effect holder is known r =
       let p = q.processor in
       let low : p < m.processors = grind (arith, nat_tests) in
-      ap (λ x. awaited m (waiting m ps lines locks mem x holder).processors r) is
+      ap (λ x. awaited_in m (waiting m ps lines locks mem x holder).processors r) is
       ∙ ap (λ w. cond (ltb r m.processors) w None) (at_set ps p r (waiting_for (get_or ps p resting) (q.address / 4)) (omega (arith, low, few, eight)))
       ∙ by_same r (elim_eq r)
       ∙ ap (λ w. cond (eqb r p) (Some (q.address / 4)) w) (agree r)
@@ -155,15 +155,15 @@ module _ (m : Measures) (ps : List Processor) (lines : List Line) (locks : List 
 
       by_same : (r : ℕ) → ((eqb r q.processor ≡ true) × (r ≡ q.processor)) ⊎ ((eqb r q.processor ≡ false) × (r ≡ q.processor → ⊥))
           → cond (ltb r m.processors) (cond (eqb r q.processor) (Some (q.address / 4)) (wait_at ps r)) None
-          ≡ cond (eqb r q.processor) (Some (q.address / 4)) (awaited m ps r)
+          ≡ cond (eqb r q.processor) (Some (q.address / 4)) (awaited_in m ps r)
       by_same r (inl same) = let low : ltb r m.processors ≡ true = grind (arith, nat_tests, same.1) in rw (low, same.0) refl
       by_same r (inr other) = rw other.0 refl
 
-  pub waits_kept : (o : Outcome) → Shape m ps lines locks mem q o → (r : ℕ) → awaited m o.processors r ≡ (command_fed q o.answer l).waits r
-  waits_kept o (refused e is) r = ap (λ x. awaited m x.processors r) is ∙ agree r ∙ ap (λ x. (command_fed q x.answer l).waits r) (sym is)
+  pub waits_kept : (o : Outcome) → Shape m ps lines locks mem q o → (r : ℕ) → awaited_in m o.processors r ≡ (command_fed q o.answer l).waits r
+  waits_kept o (refused e is) r = ap (λ x. awaited_in m x.processors r) is ∙ agree r ∙ ap (λ x. (command_fed q x.answer l).waits r) (sym is)
   waits_kept o (waited w) r =
-      ap (λ x. awaited m x.processors r) w.is ∙ by_wait w.case w.facts.effect w.blocker w.facts.is w.facts.known r
+      ap (λ x. awaited_in m x.processors r) w.is ∙ by_wait w.case w.facts.effect w.blocker w.facts.is w.facts.known r
       ∙ ap (λ x. (command_fed q x.answer l).waits r) (sym w.is)
   waits_kept o (finished f) r =
-      ap (λ x. awaited m x.processors r) f.is ∙ by_done f.case (way_taken m ps lines f.case) f.facts.effect f.facts.is r
+      ap (λ x. awaited_in m x.processors r) f.is ∙ by_done f.case (way_taken m ps lines f.case) f.facts.effect f.facts.is r
       ∙ ap (λ x. (command_fed q x.answer l).waits r) (sym f.is)

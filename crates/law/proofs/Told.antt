@@ -20,7 +20,7 @@ use Rattle.cluster.specs.Making.{resting, blank_entry}
 use Rattle.cluster.specs.Rule.{Outcome}
 use Rattle.cluster.specs.Settling.{locks_settled, ul_sent}
 use Rattle.cluster.specs.Tables.{map_from}
-use Rattle.cluster.specs.Waiting.{awaited}
+use Rattle.cluster.specs.Waiting.{awaited_in}
 use Rattle.law.specs.Accounts.{Accounts, Throughout, new_board, LocksAreTold}
 use Rattle.law.specs.Calls.{Call, command, drain, census, question, Board, command_on, said_by, left_by}
 use Rattle.law.specs.Ledger.{Ledger, opened, fed}
@@ -67,7 +67,7 @@ held_by m locks p a = tally (locks_from a a) (window_of (locks_start m p) m.lock
 record Kept (m : Measures) (b : Board) (l : Ledger) : Type 0 where
   eight : length b.processors ≡ 8
   fit : length b.locks ≡ lock_count m
-  waits : (r : ℕ) → awaited m b.processors r ≡ l.waits r
+  waits : (r : ℕ) → awaited_in m b.processors r ≡ l.waits r
   held : (p : ℕ) → p < m.processors → (a : ℕ) → held_by m b.locks p a ≡ cond (l.holds p a) 1 0
 
 some_one : (b : Bool) → ltb 0 (cond b 1 0) ≡ b

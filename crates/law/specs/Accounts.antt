@@ -6,7 +6,7 @@ use Rattle.protocol.specs.Lines.{blank_line}
 use Rattle.protocol.specs.Places.{line_count, lock_count}
 use Rattle.memory.specs.Meaning.{Mem}
 use Rattle.cluster.specs.Making.{all_resting, blank_entry}
-use Rattle.cluster.specs.Waiting.{awaited}
+use Rattle.cluster.specs.Waiting.{awaited_in}
 use Rattle.upkeep.specs.Holding.{holds}
 use Rattle.law.specs.Calls.{Call, Board, said_by, left_by}
 use Rattle.law.specs.Ledger.{Ledger, opened, fed}
@@ -14,7 +14,7 @@ use Rattle.law.specs.Ledger.{Ledger, opened, fed}
 -- each processor holds the addresses, and waits for the block, that the answers told
 pub record Accounts (m : Measures) (b : Board) (l : Ledger) : Type 0 where
   pub locks : (processor address : ℕ) → processor < m.processors → holds m b.locks address processor ≡ l.holds processor address
-  pub waits : (processor : ℕ) → awaited m b.processors processor ≡ l.waits processor
+  pub waits : (processor : ℕ) → awaited_in m b.processors processor ≡ l.waits processor
 
 -- at the start and after each call, each call starting from what the one before left
 abbrev pub Throughout : (Board → Ledger → Type 0) → Measures → Board → Ledger → List Call → Type 0

@@ -1,7 +1,7 @@
 -- Which record is due: the earliest index of a processor that does not wait.
-use Rattle.std.proofs.Common.{◌≡◌, ℕ, zero, suc, ◌+◌, ◌-◌, ◌*◌, ◌<◌, ◌≤◌, Bool, true, false, cond, not, ◌&&◌, eqb, ltb, leb, ◌⊎◌, List, length, get_or, is_some, Some, None, Option, sym, refl, ap, ◌∙◌, inl, inr, arith}
+use Rattle.std.proofs.Common.{◌≡◌, ℕ, zero, suc, ◌+◌, ◌-◌, ◌*◌, ◌<◌, ◌≤◌, Bool, true, false, cond, not, ◌&&◌, eqb, ltb, leb, ◌⊎◌, List, length, get_or, is_some, IfSome, Some, None, Option, sym, refl, ap, ◌∙◌, inl, inr, arith}
 use Rattle.std.proofs.lemmas.Bool.Decides.{leb_tells, nat_tests}
-use Rattle.run.specs.Progress.{earliest_from, Earliest}
+use Rattle.run.specs.Kept.{earliest_from, Earliest}
 
 module _ (waits : ℕ → Option ℕ) (next : List ℕ) where
   pub earliest_step : (p e : ℕ) (best : Option ℕ) (test : Bool) → p < 8 → ltb (get_or next p 0) e && not (is_some (waits p)) ≡ test
@@ -63,3 +63,8 @@ module _ (waits : ℕ → Option ℕ) (next : List ℕ) where
 
   pub earliest_tells : (count : ℕ) → Earliest waits next count (earliest_from waits next 0 8 count None)
   earliest_tells count = earliest_from_lem count 8 0 count None refl refl (omega arith) (λ q h none. absurd (omega (arith, h)))
+
+  pub found_low : (count : ℕ) (r : Option ℕ) → length next ≡ 8 → Earliest waits next count r
+      → IfSome r (λ p. (p < 8) × (p < length next) × (get_or next p 0 < count))
+  found_low count None eight tells = tt
+  found_low count (Some p) eight tells = let listed = tells.0 in (listed, omega (arith, eight, listed), tells.2)

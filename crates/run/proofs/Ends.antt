@@ -6,7 +6,7 @@ use Rattle.trace.specs.declared.record.Record.{Record}
 use Rattle.trace.specs.Traces.{when_some}
 use Rattle.trace.proofs.Puts.{not_some}
 use Rattle.text.specs.declared.step.Step.{Step}
-use Rattle.run.specs.Progress.{Going}
+use Rattle.run.specs.Kept.{Going}
 use Rattle.run.specs.Running.{Running, how_many, due, stepped, shown, left, to_go, run_from, steps_from, ran}
 use Rattle.run.proofs.Falls.{idle_most}
 

@@ -16,7 +16,7 @@ use Rattle.memory.specs.Meaning.{Mem}
 use Rattle.cluster.specs.declared.cluster.Processor.{Processor}
 use Rattle.cluster.specs.Making.{resting, tables_fit}
 use Rattle.cluster.specs.Rule.{command_rule}
-use Rattle.cluster.specs.Waiting.{awaited, idle, WaitsMore}
+use Rattle.cluster.specs.Waiting.{awaited_in, idle, FewerIdle}
 use Rattle.run.specs.Answered.{cost_of, finishes_record}
 use Rattle.trace.specs.declared.record.Record.{Record}
 use Rattle.trace.specs.Traces.{when_some}
@@ -102,7 +102,7 @@ pub cost_low : (r : Result Answer Refusal) → IfOk r (λ a. cycles_in a ≤ 400
 cost_low (Ok answer) h = h
 cost_low (Err refusal) h = omega arith
 
-pub wait_falls : (n : ℕ) (r : Result Answer Refusal) (ps qs : List Processor) → finishes_record r ≡ false → WaitsMore n r ps qs → idle n qs < idle n ps
+pub wait_falls : (n : ℕ) (r : Result Answer Refusal) (ps qs : List Processor) → finishes_record r ≡ false → FewerIdle n r ps qs → idle n qs < idle n ps
 wait_falls n (Ok (Done done)) ps qs e h = let no_way : ◌≡◌ {A = ℕ} 0 1 = cc in omega arith
 wait_falls n (Ok (Wait hit)) ps qs e h = h
 wait_falls n (Err refusal) ps qs e h = let no_way : ◌≡◌ {A = ℕ} 0 1 = cc in omega arith
@@ -132,8 +132,8 @@ module _ (m : Measures) (records : List Record) (s : Running) where
     abbrev p : ℕ
     p = (request_at records i).processor
 
-    told : (s.unfinished i ≡ true) × (not (is_some (awaited m s.processors p)) ≡ true)
-    told = unfinished_due i (s.unfinished i) (not (is_some (awaited m s.processors p))) (due_tells i is-due).1
+    told : (s.unfinished i ≡ true) × (not (is_some (awaited_in m s.processors p)) ≡ true)
+    told = unfinished_due i (s.unfinished i) (not (is_some (awaited_in m s.processors p))) (due_tells i is-due).1
 
     rises : length s.processors ≡ 8 → m.processors ≤ 8 → (m.processors ≤ p → s'.processors ≡ s.processors)
         → idle m.processors s'.processors ≤ idle m.processors s.processors + (m.processors - 1)
@@ -141,13 +141,13 @@ module _ (m : Measures) (records : List Record) (s : Running) where
       | inl beyond ↦ let kept : idle m.processors s'.processors ≡ idle m.processors s.processors = ap (idle m.processors) (same beyond.1) in omega (arith, kept)
       | inr here ↦
           let low : ltb p m.processors ≡ true = let less = here.1 in grind (arith, nat_tests) in
-          let none : awaited m s.processors p ≡ None = awake (awaited m s.processors p) told.1 in
+          let none : awaited_in m s.processors p ≡ None = awake (awaited_in m s.processors p) told.1 in
           let idle-here : (get_or s.processors p resting).waits_for ≡ None = ap (λ b. cond b (get_or s.processors p resting).waits_for None) (sym low) ∙ none in
           idle_rise m.processors s.processors s'.processors p here.1 (let less = here.1 in omega (arith, less, eight, most)) idle-here
     ]
 
     pub step_falls : 1 ≤ m.processors → m.processors ≤ 8 → length s.processors ≡ 8
-        → WaitsMore m.processors answer s.processors s'.processors → (m.processors ≤ p → s'.processors ≡ s.processors)
+        → FewerIdle m.processors answer s.processors s'.processors → (m.processors ≤ p → s'.processors ≡ s.processors)
         → to_go m records s' < to_go m records s
     step_falls some most eight waits same = by_answer (finishes_record answer) refl
       where

@@ -9,7 +9,7 @@ use Rattle.protocol.specs.Finding.{lowest_from}
 use Rattle.protocol.proofs.Finding.{Lowest, lowest_tells, lowest_is, lowest_none}
 use Rattle.memory.specs.Meaning.{Mem}
 use Rattle.cluster.specs.declared.cluster.Processor.{Processor}
-use Rattle.cluster.specs.Waiting.{awaited}
+use Rattle.cluster.specs.Waiting.{awaited_in}
 use Rattle.trace.specs.declared.record.Record.{Record}
 use Rattle.trace.specs.Sizes.{records_in}
 use Rattle.trace.specs.Records.{decoded}
@@ -18,7 +18,7 @@ use Rattle.trace.proofs.Puts.{not_some}
 use Rattle.trace.proofs.Copies.{records_many}
 use Rattle.trace.proofs.Known.{known, known_processor}
 use Rattle.run.specs.declared.run.Run.{Run}
-use Rattle.run.specs.Progress.{unfinished_by, state_of, Settled, Earliest}
+use Rattle.run.specs.Kept.{unfinished_by, state_of, Settled, Earliest}
 use Rattle.run.specs.Running.{Running, no_record, request_at, may_step, due, started}
 
 -- the next record of a processor
@@ -99,7 +99,7 @@ module _ (processors : ℕ) (bytes : List ℕ) (sound : wrong_from processors 0 
 
     module _ (m : Measures) (s : Running) (same : s.unfinished ≡ unfinished_by recs next) where
       abbrev waits : ℕ → Option ℕ
-      waits = awaited m s.processors
+      waits = awaited_in m s.processors
 
       abbrev tries : ℕ → Bool
       tries j = unfinished_by recs next j && not (is_some (waits (who j)))

@@ -12,7 +12,7 @@ use Rattle.memory.specs.Meaning.{Mem}
 use Rattle.cluster.specs.declared.cluster.Processor.{Processor}
 use Rattle.cluster.specs.Making.{tables_fit}
 use Rattle.cluster.specs.Rule.{Outcome, command_rule}
-use Rattle.cluster.specs.Waiting.{awaited, idle}
+use Rattle.cluster.specs.Waiting.{awaited_in, idle}
 use Rattle.trace.specs.declared.record.Record.{Record}
 use Rattle.trace.specs.Traces.{Content, trace_of, when_some}
 use Rattle.text.specs.declared.step.Step.{Step}
@@ -43,7 +43,7 @@ how_many test from (suc count) = cond (test from) 1 0 + how_many test (from + 1)
 module _ (m : Measures) (records : List Record) where
   -- the record is unfinished and its processor does not wait
   abbrev pub may_step : Running → ℕ → Bool
-  may_step s i = s.unfinished i && not (is_some (awaited m s.processors (request_at records i).processor))
+  may_step s i = s.unfinished i && not (is_some (awaited_in m s.processors (request_at records i).processor))
 
   -- the earliest of these; a processor's earlier unfinished record comes before its later ones
   unfoldable pub due : Running → Option ℕ

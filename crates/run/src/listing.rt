@@ -4,11 +4,11 @@ ghost use Rattle.protocol.specs.Lines.{blank_line};
 ghost use Rattle.protocol.specs.Places.{line_count, lock_count};
 ghost use Rattle.cluster.specs.Making.{all_resting, blank_entry};
 ghost use Rattle.trace.specs.Sizes.{records_in};
-ghost use Rattle.trace.specs.Traces.{records_of, content_of, wrong_from};
+ghost use Rattle.trace.specs.Traces.{records_of, content_of};
 ghost use Rattle.run.specs.Board.{listing_measures};
 ghost use Rattle.run.specs.Listing.{lines_of, all_lines, run_lines, listing_of};
-ghost use Rattle.run.specs.Progress.{state_of, Settled};
-ghost use Rattle.run.specs.Running.{to_go, ran, steps_of, started};
+ghost use Rattle.run.specs.Kept.{WasRead};
+ghost use Rattle.run.specs.Running.{steps_of, summary_of, started, end_of};
 
 use crate::run::Run;
 use cluster::cluster::Cluster;
@@ -21,6 +21,7 @@ use protocol::measures::{Costs, Measures};
 use protocol::refusal::Refusal;
 use std::alloc::{AllocError, Global};
 use text::lines::{put_refusal, put_step, put_summary};
+use text::step::Summary;
 use trace::trace::Trace;
 
 const MOST_INPUT: usize = 65_536;
@@ -30,25 +31,21 @@ const MEMORY_WORDS: usize = 1_024;
 // A line for each step, until none is possible.
 fn put_steps<M: Memory>(
     out: &mut Vec<u8>,
-    run: &mut Run,
     cluster: &mut Cluster,
     lines: &mut [Line],
     locks: &mut [LockEntry],
     memory: &mut M,
     trace: &Trace,
-) -> Result<(), AllocError>
-    requires few { run.old.steps + to_go cluster.old.geometry.measures (records_of trace.now.records.now) (state_of (records_of trace.now.records.now) run.old cluster.old.processors lines.old locks.old (M.Memory.model memory.old)) ≤ 999999999 }
-    requires cheap { run.old.cycles ≤ 4000 * run.old.steps }
-    requires sound { wrong_from trace.now.processors 0 0 (records_in trace.now.records.now) trace.now.records.now ≡ None }
-    requires served { trace.now.processors ≤ 8 }
-    requires settled { Settled trace.now.records.now run.old.next }
-    ensures after { OnOk result ((state_of (records_of trace.now.records.now) run.new cluster.new.processors lines.new locks.new (M.Memory.model memory.new)) ≡ ran cluster.old.geometry.measures (records_of trace.now.records.now) (state_of (records_of trace.now.records.now) run.old cluster.old.processors lines.old locks.old (M.Memory.model memory.old))) }
-    ensures lines { OnOk result (out.new.items ≡ out.old.items ++ lines_of (steps_of cluster.old.geometry.measures (records_of trace.now.records.now) (state_of (records_of trace.now.records.now) run.old cluster.old.processors lines.old locks.old (M.Memory.model memory.old)))) }
+) -> Result<Summary, AllocError>
+    requires { records_in trace.now.records.now ≤ 1048576 }
+    ensures summary { WasRead trace.now.processors trace.now.records.now → IfOk result (λ s. s ≡ summary_of cluster.old.geometry.measures (records_of trace.now.records.now) (end_of cluster.old.geometry.measures cluster.old.processors lines.old locks.old (M.Memory.model memory.old) (records_of trace.now.records.now))) }
+    ensures lines { WasRead trace.now.processors trace.now.records.now → OnOk result (out.new.items ≡ out.old.items ++ lines_of (steps_of cluster.old.geometry.measures (records_of trace.now.records.now) (started (records_of trace.now.records.now) cluster.old.processors lines.old locks.old (M.Memory.model memory.old)))) }
 {
+    let mut run = Run::start(trace);
     while let Some(step) = run.step(cluster, lines, locks, memory, trace) {
         put_step(out, &step)?;
     }
-    Ok(())
+    Ok(run.summary(trace))
 }
 
 // The lines of a run over a cluster and its tables, and its summary.
@@ -60,14 +57,11 @@ fn put_run_over<M: Memory>(
     memory: &mut M,
     trace: &Trace,
 ) -> Result<(), AllocError>
-    requires few { records_in trace.now.records.now ≤ 1048576 }
-    requires sound { wrong_from trace.now.processors 0 0 (records_in trace.now.records.now) trace.now.records.now ≡ None }
-    requires served { trace.now.processors ≤ 8 }
-    ensures { OnOk result (out.new.items ≡ out.old.items ++ all_lines cluster.old.geometry.measures (records_of trace.now.records.now) (started (records_of trace.now.records.now) cluster.old.processors lines.old locks.old (M.Memory.model memory.old))) }
+    requires { records_in trace.now.records.now ≤ 1048576 }
+    ensures { WasRead trace.now.processors trace.now.records.now → OnOk result (out.new.items ≡ out.old.items ++ all_lines cluster.old.geometry.measures (records_of trace.now.records.now) (started (records_of trace.now.records.now) cluster.old.processors lines.old locks.old (M.Memory.model memory.old))) }
 {
-    let mut run = Run::start(trace);
-    put_steps(out, &mut run, cluster, lines, locks, memory, trace)?;
-    put_summary(out, &run.summary(trace))?;
+    let summary = put_steps(out, cluster, lines, locks, memory, trace)?;
+    put_summary(out, &summary)?;
     Ok(())
 }
 
@@ -82,9 +76,7 @@ fn put_new_run<M: Memory>(
 ) -> Result<(), AllocError>
     requires fit { (length lines.old ≡ line_count geometry.measures) × (length locks.old ≡ lock_count geometry.measures) }
     requires few { records_in trace.now.records.now ≤ 1048576 }
-    requires sound { wrong_from trace.now.processors 0 0 (records_in trace.now.records.now) trace.now.records.now ≡ None }
-    requires served { trace.now.processors ≤ 8 }
-    ensures { OnOk result (out.new.items ≡ out.old.items ++ all_lines geometry.measures (records_of trace.now.records.now) (started (records_of trace.now.records.now) all_resting (replicate (length lines.old) blank_line) (replicate (length locks.old) blank_entry) (M.Memory.model memory.old))) }
+    ensures { WasRead trace.now.processors trace.now.records.now → OnOk result (out.new.items ≡ out.old.items ++ all_lines geometry.measures (records_of trace.now.records.now) (started (records_of trace.now.records.now) all_resting (replicate (length lines.old) blank_line) (replicate (length locks.old) blank_entry) (M.Memory.model memory.old))) }
 {
     let mut cluster = Cluster::at_rest(geometry);
     if let Err(refusal) = cluster.make_new(geometry, lines, locks) {
@@ -112,9 +104,8 @@ fn listing_geometry(processors: u8) -> Geometry
 // The run of a trace over a new cluster and zero words.
 fn put_run(heap: Global, out: &mut Vec<u8>, trace: &Trace) -> Result<(), AllocError>
     requires few { records_in trace.now.records.now ≤ 1048576 }
-    requires sound { wrong_from trace.now.processors 0 0 (records_in trace.now.records.now) trace.now.records.now ≡ None }
     requires lawful { (1 ≤ trace.now.processors) × (trace.now.processors ≤ 8) }
-    ensures { OnOk result (out.new.items ≡ out.old.items ++ run_lines (content_of trace.now.processors trace.now.records.now)) }
+    ensures { WasRead trace.now.processors trace.now.records.now → OnOk result (out.new.items ≡ out.old.items ++ run_lines (content_of trace.now.processors trace.now.records.now)) }
 {
     let geometry = listing_geometry(trace.processors());
     let mut lines = vec![in heap; Line::BLANK; geometry.line_count()]?;

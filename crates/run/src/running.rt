@@ -2,7 +2,7 @@
 ghost use Rattle.std.specs.Prelude.{◌≡◌, ◌+◌, ◌*◌, ◌≤◌, None, OnOk};
 ghost use Rattle.trace.specs.Sizes.{records_in};
 ghost use Rattle.trace.specs.Traces.{records_of, wrong_from, trace_of};
-ghost use Rattle.run.specs.Progress.{state_of, Settled};
+ghost use Rattle.run.specs.Kept.{state_of, Settled};
 ghost use Rattle.run.specs.Running.{due, to_go, ran, summary_of, end_of, run_rule, Ended};
 
 use crate::run::Run;

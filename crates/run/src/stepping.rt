@@ -1,11 +1,12 @@
 // The steps of a run: each issues the earliest record whose processor does not wait.
-ghost use Rattle.std.specs.Prelude.{◌≡◌, ℕ, ◌+◌, ◌*◌, ◌<◌, ◌≤◌, not, length, is_some, None, OnSome, slice_index};
+ghost use Rattle.std.specs.Prelude.{◌≡◌, ℕ, ◌+◌, ◌*◌, ◌<◌, ◌≤◌, not, length, is_some, None, IfSome, OnSome, slice_index};
 ghost use Rattle.std.specs.Option.{option_map};
-ghost use Rattle.cluster.specs.Waiting.{awaited};
+ghost use Rattle.cluster.specs.Waiting.{awaited_in};
 ghost use Rattle.trace.specs.Sizes.{records_in};
-ghost use Rattle.trace.specs.Traces.{records_of, wrong_from, next_of, when_some};
+ghost use Rattle.trace.specs.Traces.{records_of, next_of, when_some};
 ghost use Rattle.run.specs.Answered.{cost_of, finishes_record};
-ghost use Rattle.run.specs.Progress.{unfinished_by, state_of, Settled, earliest_from, Earliest, next_after};
+ghost use Rattle.run.specs.Kept.{unfinished_by, state_of, WasRead, Settled, earliest_from, Earliest, next_after};
+ghost use Rattle.run.specs.Progress.{Fresh, Stepped};
 ghost use Rattle.run.specs.Running.{how_many, due, stepped, shown, to_go};
 
 use crate::run::Run;
@@ -38,13 +39,14 @@ fn finishes(answer: &Result<Answer, Refusal>) -> bool
 }
 
 fn awake(cluster: &Cluster, processor: u8) -> bool
-    ensures { result ≡ not (is_some (awaited cluster.now.geometry.measures cluster.now.processors processor)) }
+    ensures { result ≡ not (is_some (awaited_in cluster.now.geometry.measures cluster.now.processors processor)) }
 {
     cluster.waits_for(processor).is_none()
 }
 
 impl Run {
     pub(crate) fn start(trace: &Trace) -> Run
+        ensures fresh { Fresh result }
         ensures next { (p : ℕ) → p < 8 → slice_index result.next p ≡ next_of p 0 trace.now.records.now }
         ensures steps { result.steps ≡ 0 }
         ensures cycles { result.cycles ≡ 0 }
@@ -62,8 +64,9 @@ impl Run {
 
     // The processor whose next record is the earliest among those that do not wait.
     fn due(&self, cluster: &Cluster, count: usize) -> Option<u8>
-        ensures value { result ≡ earliest_from (awaited cluster.now.geometry.measures cluster.now.processors) self.now.next 0 8 count None }
-        ensures tells { Earliest (awaited cluster.now.geometry.measures cluster.now.processors) self.now.next count result }
+        ensures value { result ≡ earliest_from (awaited_in cluster.now.geometry.measures cluster.now.processors) self.now.next 0 8 count None }
+        ensures found { IfSome result (λ p. (p < 8) × (p < length self.now.next) × (slice_index self.now.next p < count)) }
+        ensures tells { Earliest (awaited_in cluster.now.geometry.measures cluster.now.processors) self.now.next count result }
     {
         let next: &[usize] = &self.next;
         let mut earliest = count;
@@ -117,16 +120,14 @@ impl Run {
     ) -> Option<Step>
         requires few { self.old.steps < 1000000000 }
         requires cheap { self.old.cycles ≤ 4000 * self.old.steps }
-        requires sound { wrong_from trace.now.processors 0 0 (records_in trace.now.records.now) trace.now.records.now ≡ None }
-        requires served { trace.now.processors ≤ 8 }
-        requires settled { Settled trace.now.records.now self.old.next }
-        ensures value { result ≡ option_map (shown cluster.old.geometry.measures (records_of trace.now.records.now) (state_of (records_of trace.now.records.now) self.old cluster.old.processors lines.old locks.old (M.Memory.model memory.old))) (due cluster.old.geometry.measures (records_of trace.now.records.now) (state_of (records_of trace.now.records.now) self.old cluster.old.processors lines.old locks.old (M.Memory.model memory.old))) }
-        ensures after { (state_of (records_of trace.now.records.now) self.new cluster.new.processors lines.new locks.new (M.Memory.model memory.new)) ≡ when_some (due cluster.old.geometry.measures (records_of trace.now.records.now) (state_of (records_of trace.now.records.now) self.old cluster.old.processors lines.old locks.old (M.Memory.model memory.old))) (stepped cluster.old.geometry.measures (records_of trace.now.records.now) (state_of (records_of trace.now.records.now) self.old cluster.old.processors lines.old locks.old (M.Memory.model memory.old))) (state_of (records_of trace.now.records.now) self.old cluster.old.processors lines.old locks.old (M.Memory.model memory.old)) }
+        ensures stepped { Stepped (records_in trace.now.records.now) result self.old self.new cluster.old.processors cluster.new.processors }
+        ensures value { WasRead trace.now.processors trace.now.records.now → Settled trace.now.records.now self.old.next → result ≡ option_map (shown cluster.old.geometry.measures (records_of trace.now.records.now) (state_of (records_of trace.now.records.now) self.old cluster.old.processors lines.old locks.old (M.Memory.model memory.old))) (due cluster.old.geometry.measures (records_of trace.now.records.now) (state_of (records_of trace.now.records.now) self.old cluster.old.processors lines.old locks.old (M.Memory.model memory.old))) }
+        ensures after { WasRead trace.now.processors trace.now.records.now → Settled trace.now.records.now self.old.next → (state_of (records_of trace.now.records.now) self.new cluster.new.processors lines.new locks.new (M.Memory.model memory.new)) ≡ when_some (due cluster.old.geometry.measures (records_of trace.now.records.now) (state_of (records_of trace.now.records.now) self.old cluster.old.processors lines.old locks.old (M.Memory.model memory.old))) (stepped cluster.old.geometry.measures (records_of trace.now.records.now) (state_of (records_of trace.now.records.now) self.old cluster.old.processors lines.old locks.old (M.Memory.model memory.old))) (state_of (records_of trace.now.records.now) self.old cluster.old.processors lines.old locks.old (M.Memory.model memory.old)) }
         ensures geometry { cluster.new.geometry ≡ cluster.old.geometry }
         ensures kept { M.Memory.standing memory.new ≡ M.Memory.standing memory.old }
-        ensures settled { Settled trace.now.records.now self.new.next }
+        ensures settled { WasRead trace.now.processors trace.now.records.now → Settled trace.now.records.now self.old.next → Settled trace.now.records.now self.new.next }
         ensures cheap { self.new.cycles ≤ 4000 * self.new.steps }
-        ensures less { OnSome result (to_go cluster.old.geometry.measures (records_of trace.now.records.now) (state_of (records_of trace.now.records.now) self.new cluster.new.processors lines.new locks.new (M.Memory.model memory.new)) < to_go cluster.old.geometry.measures (records_of trace.now.records.now) (state_of (records_of trace.now.records.now) self.old cluster.old.processors lines.old locks.old (M.Memory.model memory.old))) }
+        ensures less { WasRead trace.now.processors trace.now.records.now → Settled trace.now.records.now self.old.next → OnSome result (to_go cluster.old.geometry.measures (records_of trace.now.records.now) (state_of (records_of trace.now.records.now) self.new cluster.new.processors lines.new locks.new (M.Memory.model memory.new)) < to_go cluster.old.geometry.measures (records_of trace.now.records.now) (state_of (records_of trace.now.records.now) self.old cluster.old.processors lines.old locks.old (M.Memory.model memory.old))) }
     {
         let Some(processor) = self.due(cluster, trace.count()) else {
             return None;
@@ -147,23 +148,23 @@ impl Run {
 
 impl Run {
     fn is_unfinished(&self, trace: &Trace, index: usize) -> bool
-        requires inside { index < records_in trace.now.records.now }
-        requires sound { wrong_from trace.now.processors 0 0 (records_in trace.now.records.now) trace.now.records.now ≡ None }
-        requires served { trace.now.processors ≤ 8 }
-        ensures { result ≡ unfinished_by (records_of trace.now.records.now) self.now.next index }
+        requires { index < records_in trace.now.records.now }
+        ensures { WasRead trace.now.processors trace.now.records.now → result ≡ unfinished_by (records_of trace.now.records.now) self.now.next index }
     {
         match trace.record(index) {
-            Some(record) => self.next[record.request.processor as usize] <= index,
+            Some(record) => {
+                let p = record.request.processor;
+                p < 8 && self.next[p as usize] <= index
+            }
             None => false,
         }
     }
 
     // The records that are unfinished.
     fn left(&self, trace: &Trace) -> u32
-        requires few { records_in trace.now.records.now ≤ 1048576 }
-        requires sound { wrong_from trace.now.processors 0 0 (records_in trace.now.records.now) trace.now.records.now ≡ None }
-        requires served { trace.now.processors ≤ 8 }
-        ensures { result ≡ how_many (unfinished_by (records_of trace.now.records.now) self.now.next) 0 (length (records_of trace.now.records.now)) }
+        requires { records_in trace.now.records.now ≤ 1048576 }
+        ensures few { result ≤ 1048576 }
+        ensures value { WasRead trace.now.processors trace.now.records.now → result ≡ how_many (unfinished_by (records_of trace.now.records.now) self.now.next) 0 (length (records_of trace.now.records.now)) }
     {
         let mut left = 0;
         for i in 0..trace.count() {
@@ -175,10 +176,9 @@ impl Run {
     }
 
     pub(crate) fn summary(&self, trace: &Trace) -> Summary
-        requires few { records_in trace.now.records.now ≤ 1048576 }
-        requires sound { wrong_from trace.now.processors 0 0 (records_in trace.now.records.now) trace.now.records.now ≡ None }
-        requires served { trace.now.processors ≤ 8 }
-        ensures { result ≡ record { steps = self.now.steps; cycles = self.now.cycles; left = how_many (unfinished_by (records_of trace.now.records.now) self.now.next) 0 (length (records_of trace.now.records.now)) } }
+        requires { records_in trace.now.records.now ≤ 1048576 }
+        ensures few { result.left ≤ 1048576 }
+        ensures value { WasRead trace.now.processors trace.now.records.now → result ≡ record { steps = self.now.steps; cycles = self.now.cycles; left = how_many (unfinished_by (records_of trace.now.records.now) self.now.next) 0 (length (records_of trace.now.records.now)) } }
     {
         Summary {
             steps: self.steps,

@@ -8,7 +8,7 @@ use Rattle.run.specs.Running.{started}
 use Rattle.run.proofs.listing.put_new_run.Goals as goal
 
 pub returns : goal.returns
-returns g c =
+returns g c read =
     let recs = records_of c.args.trace.now.records.now in
     let geometry = c.args.geometry in
     let lines = c.args.lines.now in
@@ -24,5 +24,5 @@ returns g c =
     let processors : after.self.processors ≡ all_resting = made.processors ∙ ap (λ b. cond b all_resting old.processors) fits in
     let new-lines : after.lines ≡ replicate (length lines) blank_line = made.lines ∙ ap (λ b. cond b (replicate (length lines) blank_line) lines) fits in
     let new-locks : after.locks ≡ replicate (length locks) blank_entry = made.locks ∙ ap (λ b. cond b (replicate (length locks) blank_entry) locks) fits in
-    c.in_ok-put_run_over.ensures
+    c.in_ok-put_run_over.ensures read
     ∙ (λ k. out ++ all_lines (at k).measures recs (started recs (processors k) (new-lines k) (new-locks k) mem))

@@ -10,7 +10,7 @@ use Rattle.run.specs.Running.{started}
 use Rattle.run.proofs.listing.put_run.Goals as goal
 
 pub returns : goal.returns
-returns c =
+returns c read =
     let t = c.args.trace.now in
     let recs = records_of t.records.now in
     let out = vec_items c.args.out.now in
@@ -19,6 +19,6 @@ returns c =
     let rows : length c.deref_mut.result.now ≡ line_count m = search rules in
     let entries : length c.deref_mut-2.result.now ≡ lock_count m = search rules in
     let words : c.new-memory.result.words.now ≡ replicate 1024 0 = c.new-memory.ensures.words in
-    c.in_ok-put_new_run.ensures
+    c.in_ok-put_new_run.ensures read
     ∙ (λ k. out ++ all_lines (same k) recs (started recs all_resting (replicate ((rows ∙ ap line_count same) k) blank_line)
     (replicate ((entries ∙ ap lock_count same) k) blank_entry) (table_of (words k))))

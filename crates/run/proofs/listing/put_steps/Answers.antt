@@ -1,58 +1,98 @@
-use Rattle.std.proofs.Common.{◌≡◌, ◌*◌, ◌<◌, ◌≤◌, [], ◌++◌, Some, None, vec_items, sym, refl, ap, ◌∙◌, append_assoc, append-nil}
+use Rattle.std.proofs.Common.{◌≡◌, ℕ, ◌+◌, ◌*◌, ◌<◌, ◌≤◌, [], ◌++◌, length, Some, None, vec_items, sym, refl, ap, subst, ◌∙◌, append_assoc, append-nil, arith}
 use Rattle.std.specs.Option.{option_map}
+use Rattle.trace.specs.Sizes.{records_in}
 use Rattle.trace.specs.Traces.{records_of, when_some}
 use Rattle.text.specs.Lines.{line_of}
+use Rattle.run.specs.Kept.{state_of, WasRead, Settled, Going}
 use Rattle.run.specs.Listing.{lines_of}
-use Rattle.run.specs.Progress.{state_of, Going}
-use Rattle.run.specs.Running.{due, stepped, shown, to_go, steps_from, ran}
-use Rattle.run.proofs.Ends.{going_start, going_on, no_step, at_end, no_more_steps}
+use Rattle.run.specs.Running.{Running, started, due, stepped, shown, to_go, steps_from, steps_of, summary_of}
+use Rattle.run.proofs.Ends.{going_start, going_on, no_step, at_end, no_more_steps, start_few}
+use Rattle.run.proofs.ToCome.{bounded_start, bounded_step}
+use Rattle.run.proofs.Turns.{many, at_first, settled_start}
 use Rattle.run.proofs.listing.put_steps.Goals as goal
 
 pub loop-step-init : goal.loop-step-init
 loop-step-init g c =
-    let recs = records_of c.args.trace.now.records.now in
-    let s = state_of recs c.args.run.now c.args.cluster.now.processors c.args.lines.now c.args.locks.now (g.M.Memory.model c.args.memory.now) in
-    ((_, going_start c.args.cluster.now.geometry.measures recs s c.requires.few c.requires.cheap, refl), c.requires.settled, refl)
+    let t = c.args.trace.now in
+    let bytes = t.records.now in
+    let recs = records_of bytes in
+    let cluster = c.args.cluster.now in
+    let m = cluster.geometry.measures in
+    let run = c.start-run.result in
+    let told = c.start-run.ensures in
+    let mem = g.M.Memory.model c.args.memory.now in
+    let out = vec_items c.args.out.now in
+    let s = started recs cluster.processors c.args.lines.now c.args.locks.now mem in
+    let Here : Running → Type 0 = λ x. (fuel : ℕ) × Going m recs s x fuel × (out ++ lines_of (steps_from m recs fuel x) ≡ out ++ lines_of (steps_of m recs s)) in (
+      bounded_start (records_in bytes) run cluster.processors told.fresh cluster.eight,
+      λ read.
+          let few : length recs ≤ 1048576 = omega (arith, c.requires, many t.processors bytes read.sound read.served) in
+          let start = at_first t.processors bytes read.sound read.served run cluster.processors c.args.lines.now c.args.locks.now mem told.next told.steps told.cycles in
+          let going = going_start m recs s (start_few m recs s cluster.geometry.few_processors few refl) (omega arith) in
+          (subst Here (sym start) (to_go m recs s, going, refl), settled_start t.processors bytes read.sound read.served run.next told.next),
+      refl,
+    )
 
 pub loop-step-preserved : goal.loop-step-preserved
 loop-step-preserved g c =
-    let recs = records_of c.args.trace.now.records.now in
-    let m = c.args.cluster.now.geometry.measures in
+    let t = c.args.trace.now in
+    let bytes = t.records.now in
+    let recs = records_of bytes in
+    let cluster = c.args.cluster.now in
+    let m = cluster.geometry.measures in
     let here = c.loop-step in
     let inv = here.invariant in
     let same : here.cluster.geometry.measures ≡ m = ap (λ x. x.measures) inv.2 in
-    let first = state_of recs c.args.run.now c.args.cluster.now.processors c.args.lines.now c.args.locks.now (g.M.Memory.model c.args.memory.now) in
+    let first = started recs cluster.processors c.args.lines.now c.args.locks.now (g.M.Memory.model c.args.memory.now) in
     let s = state_of recs here.run here.cluster.processors here.lines here.locks (g.M.Memory.model here.memory) in
     let last = c.step.new in
     let s' = state_of recs last.self last.cluster.processors last.lines last.locks (g.M.Memory.model last.memory) in
     let told = c.in-Some.ensures in
     let step = c.in-Some.step in
-    let value : Some step ≡ option_map (shown m recs s) (due m recs s) = rw (← same) told.value in
-    let after : s' ≡ when_some (due m recs s) (stepped m recs s) s = rw (← same) told.after in
-    let less : to_go m recs s' < to_go m recs s = rw (← same) told.less in
-    let further = going_on m recs first s s' inv.0.0 inv.0.1 step value after less told.cheap in
-    let rest = lines_of (steps_from m recs further.rest s') in
-    let was = vec_items here.out in
-    let lines = ap (λ l. l ++ rest) c.in_ok-put_step.ensures ∙ append_assoc was (line_of step) rest
-    ∙ ap (λ steps. was ++ lines_of steps) (sym further.head) ∙ inv.0.2 in
-    ((further.rest, further.going, lines), told.settled, told.geometry ∙ inv.2)
+    let was = vec_items here.out in (
+      bounded_step (records_in bytes) step here.run last.self here.cluster.processors last.cluster.processors inv.0 told.stepped,
+      λ read.
+          let so_far = inv.1 read in
+          let value : Some step ≡ option_map (shown m recs s) (due m recs s) = rw (← same) (told.value read so_far.1) in
+          let after : s' ≡ when_some (due m recs s) (stepped m recs s) s = rw (← same) (told.after read so_far.1) in
+          let less : to_go m recs s' < to_go m recs s = rw (← same) (told.less read so_far.1) in
+          let further = going_on m recs first s s' so_far.0.0 so_far.0.1 step value after less told.cheap in
+          let rest = lines_of (steps_from m recs further.rest s') in
+          let lines = ap (λ l. l ++ rest) c.in_ok-put_step.ensures ∙ append_assoc was (line_of step) rest
+          ∙ ap (λ steps. was ++ lines_of steps) (sym further.head) ∙ so_far.0.2 in
+          ((further.rest, further.going, lines), told.settled read so_far.1),
+      told.geometry ∙ inv.2,
+    )
 
 pub returns : goal.returns
 returns g c =
-    let recs = records_of c.args.trace.now.records.now in
-    let m = c.args.cluster.now.geometry.measures in
+    let t = c.args.trace.now in
+    let bytes = t.records.now in
+    let recs = records_of bytes in
+    let cluster = c.args.cluster.now in
+    let m = cluster.geometry.measures in
     let here = c.loop-step in
     let inv = here.invariant in
     let same : here.cluster.geometry.measures ≡ m = ap (λ x. x.measures) inv.2 in
-    let first = state_of recs c.args.run.now c.args.cluster.now.processors c.args.lines.now c.args.locks.now (g.M.Memory.model c.args.memory.now) in
+    let first = started recs cluster.processors c.args.lines.now c.args.locks.now (g.M.Memory.model c.args.memory.now) in
     let s = state_of recs here.run here.cluster.processors here.lines here.locks (g.M.Memory.model here.memory) in
     let last = c.step.new in
     let s' = state_of recs last.self last.cluster.processors last.lines last.locks (g.M.Memory.model last.memory) in
     let told = c.in_default.ensures in
-    let value : None ≡ option_map (shown m recs s) (due m recs s) = rw (← same) told.value in
-    let none = no_step m recs first s inv.0.0 inv.0.1 value in
-    let stays : s' ≡ s = (let after : s' ≡ when_some (due m recs s) (stepped m recs s) s = rw (← same) told.after in after ∙ ap (λ o. when_some o (stepped m recs s) s) none) in
+    let none : WasRead t.processors bytes → due m recs s ≡ None
+    = λ read.
+    let so_far = inv.1 read in
+    let value : None ≡ option_map (shown m recs s) (due m recs s) = rw (← same) (told.value read so_far.1) in
+    no_step m recs first s so_far.0.0 so_far.0.1 value in
+    let stays : WasRead t.processors bytes → s' ≡ s
+    = λ read.
+    let after : s' ≡ when_some (due m recs s) (stepped m recs s) s = rw (← same) (told.after read (inv.1 read).1) in
+    after ∙ ap (λ o. when_some o (stepped m recs s) s) (none read) in
     record {
-      after = stays ∙ at_end m recs first s inv.0.0 inv.0.1 none;
-      lines = sym (append-nil (vec_items here.out)) ∙ ap (λ steps. vec_items here.out ++ lines_of steps) (sym (no_more_steps m recs first s inv.0.0 inv.0.1 inv.0.0 none)) ∙ inv.0.2;
+      summary = λ read. c.summary.ensures.value read
+          ∙ ap (summary_of m recs) (stays read ∙ at_end m recs first s (inv.1 read).0.0 (inv.1 read).0.1 (none read));
+      lines = λ read.
+          let so_far = inv.1 read in
+          sym (append-nil (vec_items here.out))
+          ∙ ap (λ steps. vec_items here.out ++ lines_of steps) (sym (no_more_steps m recs first s so_far.0.0 so_far.0.1 so_far.0.0 (none read))) ∙ so_far.0.2;
     }

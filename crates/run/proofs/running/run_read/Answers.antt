@@ -1,6 +1,6 @@
 use Rattle.std.proofs.Common.{◌≡◌, ◌*◌, ◌≤◌, length, sym, refl, ap, ◌∙◌, arith}
 use Rattle.trace.specs.Traces.{records_of}
-use Rattle.run.specs.Progress.{state_of}
+use Rattle.run.specs.Kept.{state_of}
 use Rattle.run.specs.Running.{started, ran, due, summary_of}
 use Rattle.run.proofs.Ends.{start_few}
 use Rattle.run.proofs.Turns.{many, at_first, settled_start}
@@ -39,7 +39,7 @@ returns g c =
     told.next told.steps told.cycles in
     let end = c.run_to_end.ensures.after ∙ ap (ran m recs) start in
     record {
-      answer = c.summary.ensures ∙ ap (summary_of m recs) end;
+      answer = c.summary.ensures.value (record { sound = c.requires.sound; served = c.requires.served }) ∙ ap (summary_of m recs) end;
       processors = ap (λ x. x.processors) end;
       lines = ap (λ x. x.lines) end;
       locks = ap (λ x. x.locks) end;

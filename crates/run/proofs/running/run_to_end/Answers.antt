@@ -1,7 +1,7 @@
 use Rattle.std.proofs.Common.{◌≡◌, ◌*◌, ◌<◌, ◌≤◌, Some, None, sym, refl, ap, ◌∙◌}
 use Rattle.std.specs.Option.{option_map}
 use Rattle.trace.specs.Traces.{records_of, when_some}
-use Rattle.run.specs.Progress.{state_of, Going}
+use Rattle.run.specs.Kept.{state_of, WasRead, Going}
 use Rattle.run.specs.Running.{due, stepped, shown, to_go, ran}
 use Rattle.run.proofs.Ends.{going_start, going_on, no_step, at_end}
 use Rattle.run.proofs.running.run_to_end.Goals as goal
@@ -24,11 +24,12 @@ loop-preserved g c =
     let last = c.step.new in
     let s' = state_of recs last.self last.cluster.processors last.lines last.locks (g.M.Memory.model last.memory) in
     let told = c.in-Some.ensures in
-    let value : Some c.in-Some.field-0 ≡ option_map (shown m recs s) (due m recs s) = rw (← same) told.value in
-    let after : s' ≡ when_some (due m recs s) (stepped m recs s) s = rw (← same) told.after in
-    let less : to_go m recs s' < to_go m recs s = rw (← same) told.less in
+    let read : WasRead c.args.trace.now.processors c.args.trace.now.records.now = record { sound = c.requires.sound; served = c.requires.served } in
+    let value : Some c.in-Some.field-0 ≡ option_map (shown m recs s) (due m recs s) = rw (← same) (told.value read inv.1) in
+    let after : s' ≡ when_some (due m recs s) (stepped m recs s) s = rw (← same) (told.after read inv.1) in
+    let less : to_go m recs s' < to_go m recs s = rw (← same) (told.less read inv.1) in
     let further = going_on m recs first s s' inv.0.0 inv.0.1 c.in-Some.field-0 value after less told.cheap in
-    ((further.rest, further.going), told.settled, told.geometry ∙ inv.2, told.kept ∙ inv.3)
+    ((further.rest, further.going), told.settled read inv.1, told.geometry ∙ inv.2, told.kept ∙ inv.3)
 
 pub returns : goal.returns
 returns g c =
@@ -42,9 +43,10 @@ returns g c =
     let last = c.step.new in
     let s' = state_of recs last.self last.cluster.processors last.lines last.locks (g.M.Memory.model last.memory) in
     let told = c.in_default.ensures in
-    let value : None ≡ option_map (shown m recs s) (due m recs s) = rw (← same) told.value in
+    let read : WasRead c.args.trace.now.processors c.args.trace.now.records.now = record { sound = c.requires.sound; served = c.requires.served } in
+    let value : None ≡ option_map (shown m recs s) (due m recs s) = rw (← same) (told.value read inv.1) in
     let none = no_step m recs first s inv.0.0 inv.0.1 value in
-    let stays : s' ≡ s = (let after : s' ≡ when_some (due m recs s) (stepped m recs s) s = rw (← same) told.after in after ∙ ap (λ o. when_some o (stepped m recs s) s) none) in
+    let stays : s' ≡ s = (let after : s' ≡ when_some (due m recs s) (stepped m recs s) s = rw (← same) (told.after read inv.1) in after ∙ ap (λ o. when_some o (stepped m recs s) s) none) in
     record {
       after = stays ∙ at_end m recs first s inv.0.0 inv.0.1 none;
       ended = ap (due m recs) stays ∙ none;

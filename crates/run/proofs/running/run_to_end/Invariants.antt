@@ -1,6 +1,6 @@
 use Rattle.std.proofs.Common.{◌≡◌, ℕ}
 use Rattle.trace.specs.Traces.{records_of}
-use Rattle.run.specs.Progress.{state_of, Settled, Going}
+use Rattle.run.specs.Kept.{state_of, Settled, Going}
 use Rattle.run.specs.Running.{to_go}
 use Rattle.run.proofs.running.run_to_end.Given as goal
 

@@ -21,5 +21,6 @@ returns-in_err-swapped_out g c =
       geometry = refl;
       kept = c.swap_out.ensures.kept;
       waiting = rw gave.1 tt;
+      idle = rw gave.1 tt;
       cost = rw gave.1 tt;
     }

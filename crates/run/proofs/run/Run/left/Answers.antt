@@ -1,7 +1,7 @@
 use Rattle.std.proofs.Common.{◌≡◌, ◌+◌, ◌-◌, ◌<◌, ◌≤◌, true, false, length, sym, ap, ◌∙◌, arith}
 use Rattle.trace.specs.Sizes.{records_in}
 use Rattle.trace.specs.Traces.{records_of}
-use Rattle.run.specs.Progress.{unfinished_by}
+use Rattle.run.specs.Kept.{unfinished_by, WasRead}
 use Rattle.run.specs.Running.{how_many}
 use Rattle.run.proofs.Falls.{many_more}
 use Rattle.run.proofs.Turns.{many}
@@ -13,13 +13,17 @@ loop-i-init c =
     let t = c.args.trace.now in
     let bytes = t.records.now in
     let test = unfinished_by (records_of bytes) c.args.self.now.next in
-    let all : records_in bytes - 0 ≡ length (records_of bytes) = omega (arith, many t.processors bytes c.requires.sound c.requires.served) in
-    let none : 0 + how_many test 0 (records_in bytes - 0) ≡ how_many test 0 (records_in bytes - 0) = omega arith in
-    (none ∙ ap (how_many test 0) all, omega arith)
+    let none : 0 + how_many test 0 (records_in bytes - 0) ≡ how_many test 0 (records_in bytes - 0) = omega arith in (
+      λ read.
+          let all : records_in bytes - 0 ≡ length (records_of bytes) = omega (arith, many t.processors bytes read.sound read.served) in
+          none ∙ ap (how_many test 0) all,
+      omega arith,
+    )
 
 pub loop-i-preserved : goal.loop-i-preserved
 loop-i-preserved c =
-    let bytes = c.args.trace.now.records.now in
+    let t = c.args.trace.now in
+    let bytes = t.records.now in
     let test = unfinished_by (records_of bytes) c.args.self.now.next in
     let i = c.loop-i.i in
     let below : i < records_in bytes = omega (arith, c.loop-i-test.true, c.count-i-end.ensures) in
@@ -28,10 +32,12 @@ loop-i-preserved c =
     let rest = how_many test (i + 1) (records_in bytes - (i + 1)) in
     elim c.if-is_unfinished.branch [
       | then-is_unfinished w ↦
-          let one = many_more test i (records_in bytes) so_far true below (sym w.if-is_unfinished.ensures) in
-          rw w.left-is (sym one ∙ c.loop-i.invariant.0, omega (arith, few))
+          let one : WasRead t.processors bytes → so_far + how_many test i (records_in bytes - i) ≡ so_far + 1 + rest
+          = λ read. many_more test i (records_in bytes) so_far true below (sym (w.if-is_unfinished.ensures read)) in
+          rw w.left-is (λ read. sym (one read) ∙ c.loop-i.invariant.0 read, omega (arith, few))
       | else-is_unfinished w ↦
-          let one = many_more test i (records_in bytes) so_far false below (sym w.if-is_unfinished.ensures) in
+          let one : WasRead t.processors bytes → so_far + how_many test i (records_in bytes - i) ≡ so_far + 0 + rest
+          = λ read. many_more test i (records_in bytes) so_far false below (sym (w.if-is_unfinished.ensures read)) in
           let none : so_far + rest ≡ so_far + 0 + rest = omega arith in
-          rw w.left-is (none ∙ sym one ∙ c.loop-i.invariant.0, omega (arith, few))
+          rw w.left-is (λ read. none ∙ sym (one read) ∙ c.loop-i.invariant.0 read, omega (arith, few))
     ]
