@@ -1,5 +1,5 @@
 -- A processor that begins to wait leaves one fewer that does not.
-use Rattle.std.proofs.Common.{◌≡◌, ℕ, zero, suc, ◌+◌, ◌<◌, true, cond, List, [], ◌∷◌, length, get_or, set, is_some, None, arith}
+use Rattle.std.proofs.Common.{◌≡◌, ℕ, zero, suc, ◌<◌, List, [], ◌∷◌, length, get_or, set, None, arith}
 use Rattle.cluster.specs.declared.cluster.Processor.{Processor}
 use Rattle.cluster.specs.Making.{resting}
 use Rattle.cluster.specs.Waiting.{not_waiting, idle, waiting_for}

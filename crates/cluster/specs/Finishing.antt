@@ -5,7 +5,6 @@ use Rattle.protocol.specs.declared.command.BusCommand.{BusCommand}
 use Rattle.protocol.specs.declared.line.Line.{Line}
 use Rattle.protocol.specs.declared.lock.LockEntry.{LockEntry}
 use Rattle.protocol.specs.declared.measures.Measures.{Measures}
-use Rattle.protocol.specs.declared.state.State.{State}
 use Rattle.protocol.specs.Acting.{word_answered, words_left}
 use Rattle.protocol.specs.Lines.{in_state}
 use Rattle.cluster.specs.declared.case.Case.{Case}

@@ -1,8 +1,7 @@
 -- Who waits: the cluster's processors and the ledger agree.
-use Rattle.std.proofs.Common.{◌≡◌, ℕ, zero, suc, ◌+◌, ◌/◌, ◌%◌, ◌<◌, ◌≤◌, Bool, true, false, cond, not, ◌&&◌, eqb, ltb, leb, ◌⊎◌, List, [], ◌∷◌, length, get_or, set, Some, None, Ok, Err, Option, sym, refl, ap, ◌∙◌, inl, inr, arith}
+use Rattle.std.proofs.Common.{◌≡◌, ℕ, zero, suc, ◌+◌, ◌/◌, ◌%◌, ◌<◌, ◌≤◌, Bool, true, false, cond, ◌&&◌, eqb, ltb, leb, ◌⊎◌, List, [], ◌∷◌, length, get_or, set, Some, None, Option, sym, refl, ap, ◌∙◌, inl, inr, arith}
 use Rattle.std.proofs.lemmas.List.{get_or-set_same, get_or-set_other}
 use Rattle.std.proofs.lemmas.Bool.Decides.{eqb_tells, nat_tests}
-use Rattle.protocol.specs.declared.answer.Answer.TheVariants.{Done, Wait}
 use Rattle.protocol.specs.declared.command.Command.{Command}
 use Rattle.protocol.specs.declared.command.Command.TheVariants.{R, W, DW, RI, RP, RB, LR, UW, U}
 use Rattle.protocol.specs.declared.command.Request.{Request}
@@ -19,12 +18,12 @@ use Rattle.cluster.specs.Finishing.{turns_after, processors_after, way_taken}
 use Rattle.cluster.specs.Locks.{free_entry}
 use Rattle.cluster.specs.Making.{resting}
 use Rattle.cluster.specs.Refusing.{entry_used}
-use Rattle.cluster.specs.Rule.{Outcome, waiting, finishing}
-use Rattle.cluster.specs.Settling.{releases_lock, ul_sent, woken_by}
+use Rattle.cluster.specs.Rule.{Outcome, waiting}
+use Rattle.cluster.specs.Settling.{releases_lock, ul_sent}
 use Rattle.cluster.specs.Tables.{map_from}
-use Rattle.cluster.specs.Waiting.{awaited_in, waiting_for, waits_for, woken, all_woken, raised, turn_raised}
+use Rattle.cluster.specs.Waiting.{awaited_in, waiting_for, waits_for, woken, turn_raised}
 use Rattle.law.specs.Ledger.{Ledger, entered, released, command_fed, done_by}
-use Rattle.law.proofs.Shapes.{Shape, refused, waited, finished, Waited, Finished, Admitted, met}
+use Rattle.law.proofs.Shapes.{Shape, refused, waited, finished, met}
 
 abbrev wait_at : List Processor → ℕ → Option ℕ
 wait_at ps r = (get_or ps r resting).waits_for

@@ -1,7 +1,6 @@
 -- Who holds locks: the lock entries and the ledger agree.
-use Rattle.std.proofs.Common.{◌≡◌, ℕ, zero, suc, ◌+◌, ◌-◌, ◌*◌, ◌/◌, ◌%◌, ◌<◌, ◌≤◌, Bool, true, false, cond, not, ◌&&◌, eqb, ltb, leb, ◌⊎◌, List, [], ◌∷◌, length, get_or, take, drop, set, is_some, Some, None, Option, sym, refl, ap, ◌∙◌, inl, inr, mul-le-mul_right, suc-mul, arith}
-use Rattle.std.proofs.lemmas.List.{get_or-take, get_or-drop}
-use Rattle.std.proofs.lemmas.Bool.Decides.{eqb_tells, leb_tells, nat_tests}
+use Rattle.std.proofs.Common.{◌≡◌, ℕ, suc, ◌+◌, ◌*◌, ◌%◌, ◌<◌, ◌≤◌, Bool, true, false, cond, not, ◌&&◌, eqb, ltb, leb, List, length, get_or, set, is_some, Some, None, Option, sym, refl, ap, ◌∙◌, inl, inr, mul-le-mul_right, suc-mul, arith}
+use Rattle.std.proofs.lemmas.Bool.Decides.{eqb_tells, nat_tests}
 use Rattle.protocol.specs.declared.command.Command.{Command}
 use Rattle.protocol.specs.declared.command.Command.TheVariants.{R, W, DW, RI, RP, RB, LR, UW, U}
 use Rattle.protocol.specs.declared.command.Request.{Request}
@@ -9,19 +8,18 @@ use Rattle.protocol.specs.declared.lock.LockEntry.{LockEntry}
 use Rattle.protocol.specs.declared.lock.LockState.TheVariants.{LW}
 use Rattle.protocol.specs.declared.measures.Measures.{Measures}
 use Rattle.protocol.specs.declared.line.Line.{Line}
-use Rattle.protocol.specs.Finding.{unused, first_in, window_of}
+use Rattle.protocol.specs.Finding.{unused, window_of}
 use Rattle.protocol.specs.Places.{lock_count, locks_start}
 use Rattle.memory.specs.Meaning.{Mem}
 use Rattle.cluster.specs.declared.cluster.Processor.{Processor}
-use Rattle.cluster.specs.Locks.{in_use, locks_from, locks_block, held_entry, free_entry, own_entry, waited_at, waited_for}
+use Rattle.cluster.specs.Locks.{in_use, locks_from, held_entry, free_entry, own_entry, waited_at, waited_for}
 use Rattle.cluster.specs.Making.{blank_entry}
 use Rattle.cluster.specs.Refusing.{entry_used}
 use Rattle.cluster.specs.Rule.{Outcome}
 use Rattle.cluster.specs.Settling.{takes_lock, releases_lock, locked_at, locks_settled, ul_sent}
-use Rattle.cluster.specs.Tables.{map_from}
-use Rattle.law.specs.Ledger.{Ledger, entered, released, command_fed, done_by}
+use Rattle.law.specs.Ledger.{Ledger, command_fed, done_by}
 use Rattle.law.proofs.Shapes.{Shape, refused, waited, finished}
-use Rattle.law.proofs.Windows.{tally, tally-set, tally-map, first_tally, FirstAt, first_at, window_outside, window_inside, length-window, window-map, apart}
+use Rattle.law.proofs.Windows.{tally, tally-set, tally-map, first_tally, first_at, window_outside, window_inside, length-window, window-map, apart}
 
 -- what the test for an address sees of an entry
 locked_seen : (a address : ℕ) → locks_from a a (locked_at address) ≡ eqb a address

@@ -1,6 +1,5 @@
 -- The ways of a command: refused, waiting, or done.
-use Rattle.std.proofs.Common.{◌≡◌, ℕ, ◌*◌, ◌/◌, ◌<◌, ◌≤◌, Bool, true, false, cond, not, ◌&&◌, ◌||◌, leb, List, [], ◌∷◌, length, get_or, is_some, Some, None, Ok, Err, Option, Result, sym, refl, ap, ◌∙◌, arith}
-use Rattle.std.proofs.lemmas.Bool.Decides.{nat_tests}
+use Rattle.std.proofs.Common.{◌≡◌, ℕ, ◌*◌, ◌/◌, Bool, true, false, cond, not, ◌&&◌, ◌||◌, leb, List, length, get_or, is_some, Some, None, Ok, Err, Option, Result, sym, refl, ap, arith}
 use Rattle.protocol.specs.declared.command.Action.{Action}
 use Rattle.protocol.specs.declared.command.Request.{Request}
 use Rattle.protocol.specs.declared.line.Line.{Line}
@@ -24,7 +23,7 @@ use Rattle.cluster.specs.Doing.{lock_hit, supplied, victim_of, swapped_out, memo
 use Rattle.cluster.specs.Finishing.{way_taken}
 use Rattle.cluster.specs.Locks.{held_entry, free_entry, holder_of}
 use Rattle.cluster.specs.Making.{resting, tables_fit}
-use Rattle.cluster.specs.Refusing.{is_direct_write, admission, lock_tests, entry_used, unless_checked, case_met, case_of}
+use Rattle.cluster.specs.Refusing.{is_direct_write, entry_used, unless_checked, case_of}
 use Rattle.cluster.specs.Rule.{Outcome, unless_err, unless_some, refusing, waiting, finishing, swapping, supplying, proceeding, meeting, command_rule}
 use Rattle.cluster.specs.Settling.{takes_lock, releases_lock}
 

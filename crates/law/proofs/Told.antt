@@ -1,9 +1,8 @@
 -- The cluster's locks and waits are the ledger's throughout.
-use Rattle.std.proofs.Common.{◌≡◌, ℕ, zero, suc, ◌+◌, ◌*◌, ◌<◌, ◌≤◌, Bool, true, false, cond, ltb, List, [], ◌∷◌, length, get_or, take, drop, set, replicate, is_some, Some, None, Option, sym, refl, ap, ◌∙◌, arith, length-set}
+use Rattle.std.proofs.Common.{◌≡◌, ℕ, zero, suc, ◌+◌, ◌<◌, ◌≤◌, Bool, true, false, cond, ltb, List, [], ◌∷◌, length, get_or, take, drop, replicate, Some, None, Option, refl, ap, ◌∙◌, arith, length-set}
 use lib.ListN.{length-replicate}
 use Rattle.protocol.specs.declared.command.Command.{Command}
 use Rattle.protocol.specs.declared.command.Request.{Request}
-use Rattle.protocol.specs.declared.geometry.Geometry.{Geometry}
 use Rattle.protocol.specs.declared.line.Line.{Line}
 use Rattle.protocol.specs.declared.lock.LockEntry.{LockEntry}
 use Rattle.protocol.specs.declared.measures.Measures.{Measures}
@@ -25,7 +24,7 @@ use Rattle.law.specs.Accounts.{Accounts, Throughout, new_board, LocksAreTold}
 use Rattle.law.specs.Calls.{Call, command, drain, census, question, Board, command_on, said_by, left_by}
 use Rattle.law.specs.Ledger.{Ledger, opened, fed}
 use Rattle.law.proofs.Awaits.{waits_kept}
-use Rattle.law.proofs.Holds.{held_in, holds_kept}
+use Rattle.law.proofs.Holds.{holds_kept}
 use Rattle.law.proofs.Shapes.{Shape, refused, waited, finished, shape}
 use Rattle.law.proofs.Windows.{tally, first_tally}
 

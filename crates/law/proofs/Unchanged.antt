@@ -1,5 +1,5 @@
 -- A refused call changes nothing.
-use Rattle.std.proofs.Common.{◌≡◌, ℕ, ◌+◌, Bool, true, false, cond, List, [], ◌∷◌, Some, None, Ok, Err, Result, sym, refl, ap, ◌∙◌, arith}
+use Rattle.std.proofs.Common.{◌≡◌, ℕ, ◌+◌, Bool, true, false, cond, List, [], ◌∷◌, Ok, Err, Result, sym, refl, ap, ◌∙◌, arith}
 use Rattle.protocol.specs.declared.command.Request.{Request}
 use Rattle.protocol.specs.declared.line.Line.{Line}
 use Rattle.protocol.specs.declared.measures.Measures.{Measures}
@@ -12,7 +12,7 @@ use Rattle.memory.specs.Meaning.{Mem, grants}
 use Rattle.cluster.specs.Rule.{Outcome}
 use Rattle.upkeep.specs.Counting.{lines_fit}
 use Rattle.upkeep.specs.Draining.{DrainOutcome, behind, written_back, memory_back, unless_stopped, drain_from, costed, drain_rule}
-use Rattle.law.specs.Calls.{Call, command, drain, census, question, Said, answered, drained, Board, command_on, drain_on, said_by, left_by}
+use Rattle.law.specs.Calls.{command, drain, census, question, answered, Board, command_on, said_by, left_by}
 use Rattle.law.specs.Refusals.{refused_at_once, refused, RefusalsChangeNothing}
 use Rattle.law.proofs.Shapes as shapes
 use Rattle.law.proofs.Shapes.{Shape, shape}

@@ -1,5 +1,5 @@
 -- A refused call changes nothing; a drain that memory stopped alone keeps what it did.
-use Rattle.std.specs.Prelude.{◌≡◌, ℕ, Bool, true, false, not, List, Ok, Err, Option, Result}
+use Rattle.std.specs.Prelude.{◌≡◌, Bool, true, false, not, Ok, Err, Result}
 use Rattle.protocol.specs.declared.measures.Measures.{Measures}
 use Rattle.protocol.specs.declared.refusal.Refusal.{Refusal}
 use Rattle.protocol.specs.declared.refusal.Refusal.TheVariants as refusal

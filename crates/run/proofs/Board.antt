@@ -1,5 +1,5 @@
 -- The listing's measures are lawful.
-use Rattle.std.proofs.Common.{◌≡◌, ℕ, ◌≤◌, true, cond, is_ok, Ok, Err, Result, refl, ◌∙◌, arith}
+use Rattle.std.proofs.Common.{◌≡◌, ℕ, ◌≤◌, true, cond, is_ok, Ok, Err, Result, refl, arith}
 use lib.Count.{ones, ones_in}
 use Rattle.std.proofs.lemmas.Bool.Decides.{nat_tests}
 use Rattle.protocol.specs.declared.geometry.Geometry.{Geometry}

@@ -1,5 +1,5 @@
 -- A run comes to its end.
-use Rattle.std.proofs.Common.{◌≡◌, ℕ, zero, suc, ◌+◌, ◌*◌, ◌<◌, ◌≤◌, Bool, true, false, cond, List, [], ◌∷◌, ◌++◌, length, Some, None, Option, sym, refl, ap, ◌∙◌, mul-le-mul_right, arith}
+use Rattle.std.proofs.Common.{◌≡◌, ℕ, zero, suc, ◌+◌, ◌*◌, ◌<◌, ◌≤◌, Bool, true, false, cond, List, [], ◌∷◌, length, Some, None, Option, sym, refl, ap, ◌∙◌, mul-le-mul_right, arith}
 use Rattle.std.specs.Option.{option_map}
 use Rattle.protocol.specs.declared.measures.Measures.{Measures}
 use Rattle.trace.specs.declared.record.Record.{Record}

@@ -1,6 +1,6 @@
 -- The ways of a run: refused, or run to its end.
 use Prim.{Unit, tt}
-use Rattle.std.proofs.Common.{◌≡◌, ℕ, Bool, true, false, cond, List, length, None, Ok, Err, Result, sym, refl, ap, ◌∙◌}
+use Rattle.std.proofs.Common.{◌≡◌, ℕ, Bool, true, false, cond, List, length, None, Ok, Err, Result, sym, refl, ap}
 use Rattle.protocol.specs.declared.line.Line.{Line}
 use Rattle.protocol.specs.declared.lock.LockEntry.{LockEntry}
 use Rattle.protocol.specs.declared.measures.Measures.{Measures}
@@ -10,7 +10,7 @@ use Rattle.memory.specs.Meaning.{Mem}
 use Rattle.cluster.specs.declared.cluster.Processor.{Processor}
 use Rattle.cluster.specs.Making.{tables_fit}
 use Rattle.trace.specs.Traces.{Content, trace_of}
-use Rattle.run.specs.Running.{Ran, not_run, ran_all, run_rule, Ended, due, end_of}
+use Rattle.run.specs.Running.{not_run, ran_all, run_rule, Ended, due, end_of}
 
 abbrev why : {X : Type 0} → Refusal → Result X Refusal → Refusal
 why other (Ok x) = other

@@ -1,9 +1,8 @@
 -- Each step leaves less to come of the records and of the processors that do not wait.
-use Rattle.std.proofs.Common.{◌≡◌, ℕ, zero, suc, ◌+◌, ◌-◌, ◌*◌, ◌<◌, ◌≤◌, Bool, true, false, cond, sym, refl, List, [], ◌∷◌, length, get_or, set, IfOk, Some, Ok, Err, Result, suc-mul, arith}
+use Rattle.std.proofs.Common.{◌≡◌, ℕ, zero, suc, ◌+◌, ◌*◌, ◌<◌, ◌≤◌, Bool, true, false, cond, sym, refl, List, [], ◌∷◌, length, get_or, set, Some, Ok, Err, Result, suc-mul, arith}
 use Rattle.protocol.specs.declared.answer.Answer.{Answer}
 use Rattle.protocol.specs.declared.answer.Answer.TheVariants.{Done, Wait}
 use Rattle.protocol.specs.declared.refusal.Refusal.{Refusal}
-use Rattle.protocol.specs.Answers.{cycles_in}
 use Rattle.cluster.specs.declared.cluster.Processor.{Processor}
 use Rattle.cluster.specs.Waiting.{not_waiting, WaitsMore}
 use Rattle.run.specs.declared.run.Run.{Run}

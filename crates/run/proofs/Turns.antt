@@ -1,5 +1,5 @@
 -- What the indices that a run keeps say of the records that are due and unfinished.
-use Rattle.std.proofs.Common.{◌≡◌, ℕ, zero, suc, ◌+◌, ◌-◌, ◌*◌, ◌<◌, ◌≤◌, Bool, true, false, cond, not, ◌&&◌, eqb, ltb, leb, ◌⊎◌, List, length, get_or, take, drop, set, is_some, Some, None, Option, unwrap_or, sym, refl, ap, ◌∙◌, inl, inr, arith}
+use Rattle.std.proofs.Common.{◌≡◌, ℕ, ◌+◌, ◌-◌, ◌*◌, ◌<◌, ◌≤◌, Bool, true, false, cond, not, ◌&&◌, eqb, ltb, leb, List, length, get_or, take, drop, set, is_some, Some, None, Option, unwrap_or, sym, refl, ap, ◌∙◌, inl, inr, arith}
 use Rattle.std.proofs.lemmas.List.{get_or-set_same, get_or-set_other}
 use Rattle.std.proofs.lemmas.Bool.Decides.{eqb_tells, leb_tells, nat_tests}
 use Rattle.protocol.specs.declared.measures.Measures.{Measures}
@@ -19,7 +19,7 @@ use Rattle.trace.proofs.Copies.{records_many}
 use Rattle.trace.proofs.Known.{known, known_processor}
 use Rattle.run.specs.declared.run.Run.{Run}
 use Rattle.run.specs.Kept.{unfinished_by, state_of, Settled, Earliest}
-use Rattle.run.specs.Running.{Running, no_record, request_at, may_step, due, started}
+use Rattle.run.specs.Running.{Running, no_record, request_at, due, started}
 
 -- the next record of a processor
 pub record NextAt (bytes : List ℕ) (p from x : ℕ) : Type 0 where

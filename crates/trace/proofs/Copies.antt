@@ -1,11 +1,10 @@
 -- A trace's records put one after another.
-use Prim.{tt}
-use Rattle.std.proofs.Common.{◌≡◌, ℕ, zero, suc, ◌+◌, ◌-◌, ◌*◌, ◌/◌, ◌<◌, ◌≤◌, true, false, cond, ◌&&◌, ltb, leb, List, [], ◌∷◌, ◌++◌, length, take, drop, Some, None, Ok, Err, Option, sym, refl, ap, ◌∙◌, append-nil, arith, length-append, length-drop, take-add}
-use Rattle.std.proofs.lemmas.List.{append_assoc, drop_at, drop-drop, take_at, take-take, length-take-le}
+use Rattle.std.proofs.Common.{◌≡◌, ℕ, zero, suc, ◌+◌, ◌-◌, ◌*◌, ◌<◌, ◌≤◌, true, false, cond, ltb, leb, List, ◌++◌, length, take, drop, Some, None, Ok, Err, sym, refl, ap, ◌∙◌, arith, length-append, take-add}
+use Rattle.std.proofs.lemmas.List.{append_assoc, drop_at, drop-drop, take_at, length-take-le}
 use Rattle.std.proofs.lemmas.Bool.Decides.{nat_tests}
 use Rattle.protocol.specs.declared.refusal.Refusal.TheVariants as refusal
 use Rattle.trace.specs.declared.record.Record.{Record}
-use Rattle.trace.specs.Records.{decoded, encoded}
+use Rattle.trace.specs.Records.{decoded}
 use Rattle.trace.specs.Traces.{follows, wrong_from, records_from, content_of, trace_of, when_some}
 use Rattle.trace.specs.Sizes.{records_in}
 use Rattle.trace.specs.Writing.{written, trailer_bytes, put_refusal, Closed, close_rule, copy_rule}

@@ -1,5 +1,5 @@
 -- What is known of each record of a trace that was read.
-use Rattle.std.proofs.Common.{◌≡◌, ℕ, zero, suc, ◌+◌, ◌*◌, ◌<◌, ◌≤◌, Bool, true, false, cond, eqb, List, [], ◌∷◌, length, get_or, take, drop, Some, None, Option, sym, refl, ap, ◌∙◌, arith}
+use Rattle.std.proofs.Common.{◌≡◌, ℕ, zero, suc, ◌+◌, ◌*◌, ◌<◌, Bool, true, false, cond, List, get_or, take, drop, Some, None, Option, sym, ap, ◌∙◌, arith}
 use Rattle.std.proofs.lemmas.List.{drop-drop, get_or-drop, get_or-take}
 use Rattle.std.proofs.lemmas.Bool.Decides.{nat_tests}
 use Rattle.std.specs.Option.{option_map}
@@ -7,7 +7,7 @@ use Rattle.protocol.specs.declared.command.Command.{Command}
 use Rattle.trace.specs.declared.record.Record.{Record}
 use Rattle.trace.specs.Records.{number_at, command_for, well_formed, decoded}
 use Rattle.trace.specs.Sizes.{records_in}
-use Rattle.trace.specs.Traces.{follows, wrong_from, records_from, records_of, is_of, when_some}
+use Rattle.trace.specs.Traces.{follows, wrong_from, records_from, records_of, when_some}
 use Rattle.trace.proofs.Codec.{with_command}
 use Rattle.trace.proofs.Puts.{first_known, not_some}
 

@@ -1,8 +1,8 @@
 -- A number below 2^32 and its four bytes.
-use Rattle.std.proofs.Common.{◌≡◌, ℕ, ◌+◌, ◌*◌, ◌/◌, ◌%◌, ◌^◌, ◌<◌, List, [], ◌∷◌, sym, refl, ap, ◌∙◌, mod-eq_of_lt, div-add-mod', arith}
+use Rattle.std.proofs.Common.{◌≡◌, ℕ, ◌+◌, ◌*◌, ◌/◌, ◌%◌, ◌^◌, ◌<◌, [], ◌∷◌, sym, ap, ◌∙◌, mod-eq_of_lt, div-add-mod', arith}
 use native.Mathlib.Nat.{div-div-eq-div-mul}
 use Rattle.std.proofs.lemmas.Nat.{div_below}
-use Rattle.trace.specs.Records.{number_at, number_bytes}
+use Rattle.trace.specs.Records.{number_bytes}
 
 -- quotients and remainders by 256, one after another
 joined : (n a b c r0 r1 r2 r3 : ℕ) → a * 256 + r0 ≡ n → b * 256 + r1 ≡ a → c * 256 + r2 ≡ b → r3 ≡ c

@@ -1,6 +1,6 @@
 -- What is read of an output into which records were put.
 use Prim.{tt}
-use Rattle.std.proofs.Common.{◌≡◌, ℕ, zero, suc, ◌+◌, ◌-◌, ◌*◌, ◌/◌, ◌%◌, ◌<◌, ◌≤◌, Bool, true, false, cond, ◌&&◌, eqb, ltb, leb, List, [], ◌∷◌, ◌++◌, length, get_or, take, drop, Some, None, Ok, Err, Option, sym, refl, ap, ◌∙◌, arith, length-append, length-drop, take-append-drop, take-add}
+use Rattle.std.proofs.Common.{◌≡◌, ℕ, zero, suc, ◌+◌, ◌-◌, ◌*◌, ◌/◌, ◌%◌, ◌≤◌, Bool, true, false, cond, ◌&&◌, eqb, ltb, leb, List, [], ◌∷◌, ◌++◌, length, get_or, take, drop, Some, None, Ok, Err, Option, sym, refl, ap, ◌∙◌, arith, length-append, length-drop, take-append-drop, take-add}
 use lib.Seq.{take-append-le}
 use Rattle.std.proofs.lemmas.List.{append_assoc, get_or-append-add, drop_at, drop-drop, take_at, take-take, length-take-le}
 use Rattle.std.proofs.lemmas.Bool.Decides.{nat_tests}
@@ -9,7 +9,7 @@ use Rattle.trace.specs.declared.record.Record.{Record}
 use Rattle.trace.specs.declared.trailer.Trailer.{Trailer}
 use Rattle.trace.specs.Records.{number_at, decoded, encoded}
 use Rattle.trace.specs.Sizes.{records_in}
-use Rattle.trace.specs.Traces.{follows, lawful_record, wrong_from, records_from, lawful, trailer_of, record_bytes, trace_of, when_some}
+use Rattle.trace.specs.Traces.{follows, wrong_from, records_from, lawful, trailer_of, record_bytes, trace_of, when_some}
 use Rattle.trace.proofs.Numbers.{number_whole}
 use Rattle.trace.proofs.Reading.{wrong_front, records_front}
 use Rattle.trace.specs.Writing.{written, trailer_bytes, last_stamp, Put, put_refusal, put_rule, Holds}

@@ -1,10 +1,10 @@
 -- Records one after another, read from their bytes.
-use Rattle.std.proofs.Common.{◌≡◌, ℕ, zero, suc, ◌+◌, ◌-◌, ◌*◌, ◌/◌, ◌%◌, ◌<◌, ◌≤◌, cond, List, [], ◌∷◌, ◌++◌, length, take, drop, Some, None, Option, sym, refl, ap, ◌∙◌, arith, length-drop, take-append-drop, length-take}
+use Rattle.std.proofs.Common.{◌≡◌, ℕ, zero, suc, ◌+◌, ◌-◌, ◌*◌, ◌%◌, ◌<◌, ◌≤◌, List, [], ◌∷◌, ◌++◌, length, take, drop, Some, None, Option, sym, refl, ap, ◌∙◌, arith, length-drop, take-append-drop, length-take}
 use lib.Seq.{take-append-le, drop-append-le}
 use Rattle.std.proofs.lemmas.List.{drop-drop, length-take-le}
 use Rattle.std.proofs.lemmas.Bool.Decides.{nat_tests}
 use Rattle.trace.specs.declared.record.Record.{Record}
-use Rattle.trace.specs.Records.{decoded, well_formed}
+use Rattle.trace.specs.Records.{decoded}
 use Rattle.trace.specs.Sizes.{records_in}
 use Rattle.trace.specs.Traces.{lawful_record, wrong_from, records_from, when_some}
 use Rattle.trace.specs.Writing.{trailer_bytes}

@@ -1,5 +1,5 @@
 -- The steps of a drain.
-use Rattle.std.proofs.Common.{◌≡◌, ℕ, zero, suc, ◌+◌, ◌<◌, ◌≤◌, Bool, true, false, cond, ◌&&◌, eqb, List, [], ◌∷◌, ◌++◌, length, get_or, take, drop, set, Ok, Err, Result, sym, refl, ap, ◌∙◌, append_assoc, append-nil, arith, take-append-drop, take_all, take-suc-set, drop-set-lt}
+use Rattle.std.proofs.Common.{◌≡◌, ℕ, suc, ◌+◌, ◌<◌, ◌≤◌, Bool, true, false, cond, ◌&&◌, eqb, List, [], ◌∷◌, ◌++◌, length, get_or, take, drop, set, Ok, Err, Result, sym, refl, ap, ◌∙◌, append_assoc, append-nil, arith, take-append-drop, take_all, take-suc-set, drop-set-lt}
 use Rattle.std.proofs.lemmas.List.{drop_more, drop_all}
 use Rattle.std.specs.Result.{result_unwrap_or}
 use Rattle.protocol.specs.declared.line.Line.{Line}
@@ -8,7 +8,7 @@ use Rattle.protocol.specs.declared.refusal.Refusal.{Refusal}
 use Rattle.protocol.specs.declared.refusal.Refusal.TheVariants.{Memory}
 use Rattle.protocol.specs.Entries.{modified}
 use Rattle.protocol.specs.Lines.{blank_line, no_line}
-use Rattle.memory.specs.Meaning.{Mem, grants, written}
+use Rattle.memory.specs.Meaning.{Mem, grants}
 use Rattle.upkeep.specs.Counting.{count_of}
 use Rattle.upkeep.proofs.Counts.{is_modified}
 use Rattle.upkeep.specs.Draining.{Drain, behind, written_back, memory_back, unless_stopped, drain_from}

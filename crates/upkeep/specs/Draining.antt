@@ -1,6 +1,5 @@
 -- The drain: each modified line is written back, and every line becomes I.
 use Rattle.std.specs.Prelude.{ℕ, ◌+◌, ◌*◌, cond, List, [], ◌∷◌, Ok, Err, Result}
-use Rattle.std.specs.Result.{result_map_both}
 use Rattle.protocol.specs.declared.line.Line.{Line}
 use Rattle.protocol.specs.declared.measures.Measures.{Measures}
 use Rattle.protocol.specs.declared.refusal.Direction.TheVariants.{Write}

@@ -1,4 +1,4 @@
-use Rattle.std.proofs.Common.{◌≡◌, get_or, set, sym, ap, ◌∙◌, arith}
+use Rattle.std.proofs.Common.{◌∙◌, arith}
 use Rattle.cluster.specs.Locks.{waited_at}
 use Rattle.cluster.specs.Making.{blank_entry}
 use Rattle.cluster.proofs.Mapping.{mapped_step, mapped_all}

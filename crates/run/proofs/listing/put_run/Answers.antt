@@ -1,4 +1,4 @@
-use Rattle.std.proofs.Common.{◌≡◌, ℕ, List, ◌++◌, length, replicate, vec_items, sym, refl, ap, ◌∙◌, rules}
+use Rattle.std.proofs.Common.{◌≡◌, ◌++◌, length, replicate, vec_items, ap, ◌∙◌, rules}
 use Rattle.protocol.specs.Lines.{blank_line}
 use Rattle.protocol.specs.Places.{line_count, lock_count}
 use Rattle.memory.specs.Words.{table_of}

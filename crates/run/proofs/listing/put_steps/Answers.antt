@@ -1,9 +1,9 @@
-use Rattle.std.proofs.Common.{◌≡◌, ℕ, ◌+◌, ◌*◌, ◌<◌, ◌≤◌, [], ◌++◌, length, Some, None, vec_items, sym, refl, ap, subst, ◌∙◌, append_assoc, append-nil, arith}
+use Rattle.std.proofs.Common.{◌≡◌, ℕ, ◌<◌, ◌≤◌, ◌++◌, length, Some, None, vec_items, sym, refl, ap, subst, ◌∙◌, append_assoc, append-nil, arith}
 use Rattle.std.specs.Option.{option_map}
 use Rattle.trace.specs.Sizes.{records_in}
 use Rattle.trace.specs.Traces.{records_of, when_some}
 use Rattle.text.specs.Lines.{line_of}
-use Rattle.run.specs.Kept.{state_of, WasRead, Settled, Going}
+use Rattle.run.specs.Kept.{state_of, WasRead, Going}
 use Rattle.run.specs.Listing.{lines_of}
 use Rattle.run.specs.Running.{Running, started, due, stepped, shown, to_go, steps_from, steps_of, summary_of}
 use Rattle.run.proofs.Ends.{going_start, going_on, no_step, at_end, no_more_steps, start_few}

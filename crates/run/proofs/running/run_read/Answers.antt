@@ -1,7 +1,7 @@
-use Rattle.std.proofs.Common.{◌≡◌, ◌*◌, ◌≤◌, length, sym, refl, ap, ◌∙◌, arith}
+use Rattle.std.proofs.Common.{◌≤◌, length, sym, ap, ◌∙◌, arith}
 use Rattle.trace.specs.Traces.{records_of}
 use Rattle.run.specs.Kept.{state_of}
-use Rattle.run.specs.Running.{started, ran, due, summary_of}
+use Rattle.run.specs.Running.{ran, due, summary_of}
 use Rattle.run.proofs.Ends.{start_few}
 use Rattle.run.proofs.Turns.{many, at_first, settled_start}
 use Rattle.run.proofs.running.run_read.Goals as goal

@@ -1,8 +1,8 @@
-use Rattle.std.proofs.Common.{◌≡◌, ◌*◌, ◌<◌, ◌≤◌, Some, None, sym, refl, ap, ◌∙◌}
+use Rattle.std.proofs.Common.{◌≡◌, ◌<◌, Some, None, refl, ap, ◌∙◌}
 use Rattle.std.specs.Option.{option_map}
 use Rattle.trace.specs.Traces.{records_of, when_some}
-use Rattle.run.specs.Kept.{state_of, WasRead, Going}
-use Rattle.run.specs.Running.{due, stepped, shown, to_go, ran}
+use Rattle.run.specs.Kept.{state_of, WasRead}
+use Rattle.run.specs.Running.{due, stepped, shown, to_go}
 use Rattle.run.proofs.Ends.{going_start, going_on, no_step, at_end}
 use Rattle.run.proofs.running.run_to_end.Goals as goal
 

@@ -1,7 +1,6 @@
-use Rattle.std.proofs.Common.{◌≡◌, Ok, Err, sym, refl, ap, ◌∙◌}
+use Rattle.std.proofs.Common.{Ok, Err, refl, ap, ◌∙◌}
 use Rattle.std.proofs.lemmas.Result.{err_from_is_err_and}
 use Rattle.trace.specs.Traces.{content_of}
-use Rattle.run.specs.Running.{Ran}
 use Rattle.run.proofs.Runs.{tables_unfit, tables_fit_lem, not_read, read_and_run, ended}
 use Rattle.run.proofs.running.run_trace.Goals as goal
 

@@ -1,7 +1,6 @@
-use Rattle.std.proofs.Common.{◌≡◌, ℕ, [], ◌∷◌, ◌++◌, vec_items, codes, sym, refl, ap, ◌∙◌}
+use Rattle.std.proofs.Common.{◌++◌, vec_items, ap, ◌∙◌}
 use Rattle.text.specs.Digits.{fixed}
-use Rattle.text.specs.Names.{command_named}
-use Rattle.text.specs.Lines.{field, last_field, shown_of, shown_line, line_of, stuck_line, summary_lines, refusal_line}
+use Rattle.text.specs.Lines.{field, last_field}
 use Rattle.text.proofs.Joins.{behind, behind_as}
 use Rattle.text.proofs.lines.put_answer.Goals as goal
 

@@ -1,8 +1,7 @@
-use Rattle.std.proofs.Common.{◌≡◌, ℕ, true, cond, ltb, [], ◌∷◌, ◌++◌, vec_items, codes, sym, refl, ap, ◌∙◌, arith}
+use Rattle.std.proofs.Common.{◌≡◌, true, cond, ltb, [], ◌++◌, vec_items, codes, sym, ap, ◌∙◌, arith}
 use Rattle.text.specs.Digits.{fixed}
-use Rattle.text.specs.Names.{command_named}
-use Rattle.text.specs.Lines.{field, last_field, shown_of, shown_line, line_of, stuck_line, summary_lines, refusal_line}
-use Rattle.text.proofs.Joins.{behind, behind_as}
+use Rattle.text.specs.Lines.{field, last_field}
+use Rattle.text.proofs.Joins.{behind}
 use Rattle.std.proofs.lemmas.Bool.Decides.{nat_tests}
 use Rattle.text.proofs.lines.put_stuck.Goals as goal
 

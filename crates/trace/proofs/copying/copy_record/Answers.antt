@@ -1,8 +1,8 @@
-use Rattle.std.proofs.Common.{◌≡◌, ◌+◌, ◌-◌, ◌*◌, ◌<◌, ◌≤◌, length, take, drop, None, sym, ap, ◌∙◌, arith}
+use Rattle.std.proofs.Common.{◌≡◌, ◌+◌, ◌-◌, ◌*◌, ◌<◌, ◌≤◌, length, drop, sym, ap, ◌∙◌, arith}
 use Rattle.trace.specs.Sizes.{records_in}
 use Rattle.trace.specs.Records.{encoded}
 use Rattle.trace.specs.Traces.{wrong_from}
-use Rattle.trace.specs.Writing.{written, put_refusal}
+use Rattle.trace.specs.Writing.{written}
 use Rattle.trace.proofs.Puts.{put_done}
 use Rattle.trace.proofs.Copies.{there, may, behind, put_goes}
 use Rattle.trace.proofs.copying.copy_record.Goals as goal

@@ -1,4 +1,4 @@
-use Rattle.std.proofs.Common.{◌≡◌, ◌+◌, ◌-◌, ◌*◌, ◌≤◌, ◌++◌, length, drop, sym, refl, ap, ◌∙◌, arith}
+use Rattle.std.proofs.Common.{◌≡◌, ◌+◌, ◌-◌, ◌*◌, ◌≤◌, ◌++◌, length, drop, sym, ap, ◌∙◌, arith}
 use Rattle.trace.specs.Sizes.{records_in}
 use Rattle.trace.specs.Writing.{written, trailer_bytes, close_rule}
 use Rattle.trace.proofs.Puts.{length-written}

@@ -1,4 +1,4 @@
-use Rattle.std.proofs.Common.{◌≡◌, ◌<◌, length, get_or, sym, ap, ◌∙◌, arith, rules}
+use Rattle.std.proofs.Common.{◌≡◌, length, get_or, sym, ap, ◌∙◌, arith, rules}
 use Rattle.trace.specs.Records.{number_at, command_for, encoded}
 use Rattle.trace.proofs.Codec.{with_command, encode_met}
 use Rattle.trace.proofs.record.decode.Goals as goal

@@ -1,4 +1,4 @@
-use Rattle.std.proofs.Common.{◌≡◌, ◌+◌, ◌-◌, ◌≤◌, length, get_or, ap, ◌∙◌, arith, rules}
+use Rattle.std.proofs.Common.{◌+◌, ◌-◌, length, get_or, ap, ◌∙◌, arith, rules}
 use Rattle.trace.specs.Writing.{trailer_bytes}
 use Rattle.trace.proofs.Codec.{trailer_again}
 use Rattle.trace.proofs.trailer.trailer_of.Goals as goal

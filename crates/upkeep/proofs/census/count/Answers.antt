@@ -1,7 +1,7 @@
-use Rattle.std.proofs.Common.{◌≡◌, ◌+◌, ◌<◌, ◌≤◌, true, false, eqb, length, get_or, drop, sym, ap, ◌∙◌, arith}
+use Rattle.std.proofs.Common.{◌≡◌, ◌+◌, true, false, get_or, drop, sym, ◌∙◌, arith}
 use Rattle.std.proofs.lemmas.Bool.Decides.{nat_tests}
 use Rattle.protocol.specs.Lines.{no_line}
-use Rattle.upkeep.specs.Counting.{place_of, stands, count_of}
+use Rattle.upkeep.specs.Counting.{stands, count_of}
 use Rattle.upkeep.proofs.Counts.{count_more, count_ends}
 use Rattle.upkeep.proofs.census.count.Goals as goal
 use Rattle.upkeep.proofs.census.count.Goals.{then-place_of-place, else-place_of-place}

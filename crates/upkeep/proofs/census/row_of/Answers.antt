@@ -1,6 +1,6 @@
-use Rattle.std.proofs.Common.{◌≡◌, ◌+◌, ◌-◌, ◌<◌, ◌≤◌, true, false, cond, ltb, length, take, drop, replicate, sym, refl, ap, ◌∙◌, arith, length-drop, length-take}
+use Rattle.std.proofs.Common.{◌≡◌, ◌-◌, true, false, cond, ltb, take, drop, replicate, sym, refl, ap, ◌∙◌, arith, length-drop, length-take}
 use Rattle.std.proofs.lemmas.Bool.Decides.{nat_tests}
-use Rattle.upkeep.specs.Counting.{row_of, row_at, cache_of, first_line}
+use Rattle.upkeep.specs.Counting.{row_of, row_at, cache_of}
 use Rattle.upkeep.proofs.Counts.{few_lines}
 use Rattle.upkeep.proofs.census.row_of.Goals as goal
 

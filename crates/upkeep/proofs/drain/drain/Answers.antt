@@ -1,8 +1,8 @@
-use Rattle.std.proofs.Common.{◌≡◌, ◌*◌, ◌<◌, ◌≤◌, true, false, length, Ok, sym, refl, ap, ◌∙◌, zero-add, arith}
+use Rattle.std.proofs.Common.{◌≡◌, ◌*◌, true, false, length, Ok, sym, refl, ap, ◌∙◌, zero-add, arith}
 use Rattle.std.proofs.lemmas.Bool.Decides.{nat_tests}
 use Rattle.protocol.specs.Places.{line_count}
 use Rattle.upkeep.specs.Counting.{lines_fit, count_of}
-use Rattle.upkeep.specs.Draining.{drain_rule, drain_from, costed}
+use Rattle.upkeep.specs.Draining.{drain_rule, costed}
 use Rattle.upkeep.proofs.Counts.{is_modified, few_lines, has_columns, census_counts}
 use Rattle.upkeep.proofs.Drains.{drain_count}
 use Rattle.upkeep.proofs.drain.drain.Goals as goal

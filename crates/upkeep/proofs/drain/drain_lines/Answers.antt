@@ -1,4 +1,4 @@
-use Rattle.std.proofs.Common.{◌≡◌, ◌+◌, ◌<◌, ◌≤◌, length, get_or, take, drop, set, sym, refl, ap, ◌∙◌, arith}
+use Rattle.std.proofs.Common.{◌+◌, ◌<◌, ◌≤◌, length, get_or, take, drop, set, sym, ap, ◌∙◌, arith}
 use Rattle.protocol.specs.Lines.{blank_line, no_line}
 use Rattle.upkeep.specs.Draining.{drain_from}
 use Rattle.upkeep.proofs.Drains.{onto, refused_keeps, drain_more, drain_stops, drain_ends}

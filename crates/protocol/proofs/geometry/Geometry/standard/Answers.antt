@@ -1,4 +1,4 @@
-use Rattle.std.proofs.Common.{refl, arith}
+use Rattle.std.proofs.Common.{refl}
 use lib.Count.{ones, ones_in}
 use Rattle.protocol.proofs.geometry.Geometry.standard.Goals as goal
 

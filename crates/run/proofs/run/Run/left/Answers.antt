@@ -1,4 +1,4 @@
-use Rattle.std.proofs.Common.{◌≡◌, ◌+◌, ◌-◌, ◌<◌, ◌≤◌, true, false, length, sym, ap, ◌∙◌, arith}
+use Rattle.std.proofs.Common.{◌≡◌, ◌+◌, ◌-◌, ◌<◌, true, false, length, sym, ap, ◌∙◌, arith}
 use Rattle.trace.specs.Sizes.{records_in}
 use Rattle.trace.specs.Traces.{records_of}
 use Rattle.run.specs.Kept.{unfinished_by, WasRead}

@@ -1,11 +1,11 @@
-use Rattle.std.proofs.Common.{◌≡◌, ◌+◌, ◌*◌, ◌<◌, ◌≤◌, not, ◌&&◌, eqb, length, get_or, Some, None, sym, refl, ap, ◌∙◌, arith}
+use Rattle.std.proofs.Common.{◌≡◌, ◌+◌, ◌<◌, not, ◌&&◌, eqb, get_or, Some, None, refl, ap, ◌∙◌, arith}
 use Rattle.cluster.specs.Rule.{command_rule}
-use Rattle.cluster.specs.Waiting.{awaited_in, FewerIdle}
+use Rattle.cluster.specs.Waiting.{awaited_in}
 use Rattle.trace.specs.Sizes.{records_in}
 use Rattle.trace.specs.Traces.{records_of}
 use Rattle.run.specs.Answered.{cost_of, finishes_record}
-use Rattle.run.specs.Kept.{state_of, unfinished_by, WasRead, Settled, Earliest, next_after}
-use Rattle.run.specs.Running.{Running, request_at, due}
+use Rattle.run.specs.Kept.{state_of, unfinished_by, WasRead, Settled, Earliest}
+use Rattle.run.specs.Running.{request_at, due}
 use Rattle.run.proofs.Turns.{due_none, due_some, request_same, request_there, unfinished_after, settled_next}
 use Rattle.run.proofs.ToCome.{step_leaves_less}
 use Rattle.run.proofs.Falls.{no_such_processor, step_falls, step_after, shown_due, cost_low}

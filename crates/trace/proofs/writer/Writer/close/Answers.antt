@@ -1,7 +1,7 @@
-use Rattle.std.proofs.Common.{◌≡◌, ◌+◌, ◌*◌, ◌<◌, false, ltb, length, take, sym, refl, ap, ◌∙◌, arith}
+use Rattle.std.proofs.Common.{◌≡◌, ◌+◌, ◌*◌, false, ltb, length, take, refl, ap, ◌∙◌, arith}
 use Rattle.std.proofs.lemmas.Bool.Decides.{nat_tests}
 use Rattle.trace.specs.Traces.{trace_of}
-use Rattle.trace.specs.Writing.{written, trailer_bytes, close_rule}
+use Rattle.trace.specs.Writing.{written}
 use Rattle.trace.proofs.Puts.{closed_reads}
 use Rattle.trace.proofs.writer.Writer.close.Goals as goal
 

@@ -1,6 +1,6 @@
-use Rattle.std.proofs.Common.{◌≡◌, ◌+◌, ◌*◌, ◌≤◌, length, sym, refl, ap, ◌∙◌, arith}
+use Rattle.std.proofs.Common.{◌*◌, sym, refl, ap, ◌∙◌}
 use Rattle.trace.specs.Records.{encoded, decoded}
-use Rattle.trace.specs.Writing.{written, Holds}
+use Rattle.trace.specs.Writing.{written}
 use Rattle.trace.proofs.Puts.{put_done, put_follows, put_holds}
 use Rattle.trace.proofs.writer.Writer.put.Goals as goal
 
