@@ -5,3 +5,5 @@ pub mod listing;
 pub mod run;
 pub mod running;
 pub mod stepping;
+
+pub use text::{digits, names};

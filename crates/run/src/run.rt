@@ -1,6 +1,8 @@
 // What a run keeps between two steps.
 ghost use Rattle.std.specs.Prelude.{◌≡◌, length};
 
+pub use text::step::{Step, Summary};
+
 // For each processor its first unfinished record, or the number of records where it has none.
 #[derive(Clone, Copy)]
 pub struct Run {
