@@ -3,7 +3,7 @@
 
     python3 tests/fuzz.py [--count N] [--seed S] [--save FILE] [BINARY]
 
-BINARY is target/bin/listing unless given. Prints the first trace on which they
+BINARY is crates/listing/out/listing unless given. Prints the first trace on which they
 differ, made as short as it can be, and exits 1; --save writes its bytes too. The
 same seed gives the same traces.
 """
@@ -18,7 +18,7 @@ import sys
 sys.dont_write_bytecode = True
 import model
 
-DEFAULT_BINARY = pathlib.Path(__file__).resolve().parent.parent / "target" / "bin" / "listing"
+DEFAULT_BINARY = pathlib.Path(__file__).resolve().parent.parent / "crates" / "listing" / "out" / "listing"
 CODE = {name: code for code, name in enumerate(model.COMMANDS)}
 
 # How often each command is drawn, in each mood. Locks that are never released end

@@ -39,8 +39,8 @@ class Edit:
 
 
 def compiled(copy, crate):
-    """What the checker says of a crate, once what it stands on is proved."""
-    done = subprocess.run(["rt", "mir", crate], cwd=copy, capture_output=True, text=True)
+    """What the checker says of a crate before it proves a function, once what the crate stands on is proved."""
+    done = subprocess.run(["rt", "check", "--only", ""], cwd=copy / "crates" / crate, capture_output=True, text=True)
     return done.returncode, done.stdout + done.stderr
 
 
@@ -64,7 +64,7 @@ def main():
     with tempfile.TemporaryDirectory() as folder:
         copy = pathlib.Path(folder)
         shutil.copy(ROOT / "crates.txt", copy)
-        shutil.copytree(ROOT / "crates", copy / "crates")
+        shutil.copytree(ROOT / "crates", copy / "crates", ignore=shutil.ignore_patterns("out"))
         for crate in sorted({edit.crate for edit in edits}):
             status, said = compiled(copy, crate)
             if status != 0:

@@ -3,10 +3,10 @@
 
     python3 tests/run_listings.py [BINARY]
 
-BINARY is target/bin/listing unless given. The program gets each tests/listings/NAME.trace
-on standard input, once as a file and once through a pipe. Each time it must write the bytes
-of NAME.listing and nothing on standard error, and end with status 0. Prints failures only,
-and exits 1 if there is one. tests/make_listings.py makes the stored files.
+BINARY is crates/listing/out/listing unless given; `rt run` in crates/listing makes it. The
+program gets each tests/listings/NAME.trace on standard input, once as a file and once through
+a pipe. Each time it must write the bytes of NAME.listing and nothing on standard error, and end
+with status 0. Prints failures only, and exits 1 if there is one. tests/make_listings.py makes the stored files.
 """
 import pathlib
 import subprocess
@@ -14,7 +14,7 @@ import sys
 
 TESTS = pathlib.Path(__file__).resolve().parent
 FOLDER = TESTS / "listings"
-DEFAULT_BINARY = TESTS.parent / "target" / "bin" / "listing"
+DEFAULT_BINARY = TESTS.parent / "crates" / "listing" / "out" / "listing"
 
 
 def from_file(binary, path):
