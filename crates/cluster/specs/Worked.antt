@@ -70,7 +70,7 @@ pub record WorkedCases : Type 0 where
   pub written_then_shared : told (by 0 (W 5) 0 ∷ (by 1 R 0 ∷ []))
       ≡ from_memory 0 EM ∷ (Did 5 S (Some (Cache 0)) None false 7 ∷ [])
   pub supplier_keeps_sm : map first_line (play (by 0 (W 5) 0 ∷ (by 1 R 0 ∷ []))) ≡ EM ∷ (SM ∷ [])
-  pub swapped_out_lem : told (by 0 R 0 ∷ (by 0 (W 5) 0 ∷ (by 0 R 4 ∷ [])))
+  pub swapped_out : told (by 0 R 0 ∷ (by 0 (W 5) 0 ∷ (by 0 R 4 ∷ [])))
       ≡ from_memory 0 EC ∷ (silent 0 EM ∷ (Did 0 EC (Some Memory) (Some 0) false 18 ∷ []))
   pub direct_write : told (by 0 (DW 5) 0 ∷ (by 0 R 1 ∷ [])) ≡ silent 0 EM ∷ (silent 0 EM ∷ [])
   pub direct_write_twice : told (by 0 (DW 0) 0 ∷ (by 0 (DW 0) 0 ∷ [])) ≡ silent 0 EM ∷ (Refused (MachineCheck EM) ∷ [])
