@@ -1,6 +1,7 @@
 // What a run keeps between two steps.
 ghost use Rattle.std.specs.Prelude.{◌≡◌, length};
 
+pub use crate::running::run_trace;
 pub use text::step::{Step, Summary};
 
 // For each processor its first unfinished record, or the number of records where it has none.

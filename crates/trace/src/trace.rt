@@ -7,7 +7,8 @@ ghost use Rattle.trace.specs.Traces.{follows, lawful_record, wrong_from, next_of
 ghost use Rattle.trace.specs.Writing.{trailer_bytes};
 
 use crate::record::{RECORD_SIZE, Record, decode};
-use crate::trailer::{TRAILER_SIZE, trailer_of};
+use crate::trailer::trailer_of;
+pub use crate::trailer::{MOST_RECORDS, TRAILER_SIZE, VERSION};
 use protocol::refusal::Refusal;
 
 #[derive(Clone, Copy)]
