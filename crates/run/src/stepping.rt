@@ -147,9 +147,8 @@ impl Run {
 }
 
 impl Run {
-    fn is_unfinished(&self, trace: &Trace, index: usize) -> bool
-        requires { index < records_in trace.now.records.now }
-        ensures { WasRead trace.now.processors trace.now.records.now → result ≡ unfinished_by (records_of trace.now.records.now) self.now.next index }
+    fn unfinished(&self, trace: &Trace, index: usize) -> bool
+        ensures { WasRead trace.now.processors trace.now.records.now → index < records_in trace.now.records.now → result ≡ unfinished_by (records_of trace.now.records.now) self.now.next index }
     {
         match trace.record(index) {
             Some(record) => {
@@ -168,7 +167,7 @@ impl Run {
     {
         let mut left = 0;
         for i in 0..trace.count() {
-            if self.is_unfinished(trace, i) {
+            if self.unfinished(trace, i) {
                 left += 1;
             }
         }

@@ -6,7 +6,7 @@ use Rattle.run.specs.Running.{how_many}
 use Rattle.run.proofs.Falls.{many_more}
 use Rattle.run.proofs.Turns.{many}
 use Rattle.run.proofs.run.Run.left.Goals as goal
-use Rattle.run.proofs.run.Run.left.Goals.{then-is_unfinished, else-is_unfinished}
+use Rattle.run.proofs.run.Run.left.Goals.{then-unfinished, else-unfinished}
 
 pub loop-i-init : goal.loop-i-init
 loop-i-init c =
@@ -30,14 +30,14 @@ loop-i-preserved c =
     let so_far = c.loop-i.left in
     let few = c.loop-i.invariant.1 in
     let rest = how_many test (i + 1) (records_in bytes - (i + 1)) in
-    elim c.if-is_unfinished.branch [
-      | then-is_unfinished w ↦
+    elim c.if-unfinished.branch [
+      | then-unfinished w ↦
           let one : WasRead t.processors bytes → so_far + how_many test i (records_in bytes - i) ≡ so_far + 1 + rest
-          = λ read. many_more test i (records_in bytes) so_far true below (sym (w.if-is_unfinished.ensures read)) in
+          = λ read. many_more test i (records_in bytes) so_far true below (sym (w.if-unfinished.ensures read below)) in
           rw w.left-is (λ read. sym (one read) ∙ c.loop-i.invariant.0 read, omega (arith, few))
-      | else-is_unfinished w ↦
+      | else-unfinished w ↦
           let one : WasRead t.processors bytes → so_far + how_many test i (records_in bytes - i) ≡ so_far + 0 + rest
-          = λ read. many_more test i (records_in bytes) so_far false below (sym (w.if-is_unfinished.ensures read)) in
+          = λ read. many_more test i (records_in bytes) so_far false below (sym (w.if-unfinished.ensures read below)) in
           let none : so_far + rest ≡ so_far + 0 + rest = omega arith in
           rw w.left-is (λ read. none ∙ sym (one read) ∙ c.loop-i.invariant.0 read, omega (arith, few))
     ]
