@@ -1,6 +1,5 @@
-use Rattle.std.proofs.Common.{◌≡◌, ◌<◌, true, ◌&&◌, ltb, leb, length, get_or, sym, ap, ◌∙◌, arith}
+use Rattle.std.proofs.Common.{◌≡◌, true, ◌&&◌, ltb, leb, length, get_or, sym, ap, ◌∙◌, arith}
 use Rattle.std.proofs.lemmas.Bool.Decides.{nat_tests}
-use Rattle.trace.specs.Sizes.{records_in}
 use Rattle.trace.specs.Traces.{records_of}
 use Rattle.run.specs.Running.{request_at}
 use Rattle.run.proofs.Turns.{many, low, request_same, request_there}
