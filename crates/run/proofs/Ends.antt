@@ -1,5 +1,5 @@
 -- A run comes to its end.
-use Rattle.std.proofs.Common.{◌≡◌, ℕ, zero, suc, ◌+◌, ◌*◌, ◌<◌, ◌≤◌, Bool, true, false, cond, List, [], ◌∷◌, length, Some, None, Option, sym, refl, ap, ◌∙◌, mul-le-mul_right, arith}
+use Rattle.std.proofs.Common.{◌≡◌, ℕ, zero, suc, ◌+◌, ◌*◌, ◌<◌, ◌≤◌, Bool, true, false, cond, List, [], ◌∷◌, length, Some, None, Option, sym, refl, ap, subst, ◌∙◌, mul-le-mul_right, arith}
 use Rattle.std.specs.Option.{option_map}
 use Rattle.protocol.specs.declared.measures.Measures.{Measures}
 use Rattle.trace.specs.declared.record.Record.{Record}
@@ -74,6 +74,31 @@ module _ (m : Measures) (records : List Record) where
     unfolding steps_from
     no_more_steps zero e = refl
     no_more_steps (suc n) e = rw e refl
+
+  -- what a call of the step tells of one step, by measures m' that are those of the run
+  module _ (m' : Measures) (same : m' ≡ m) (first s s' : Running) (fuel : ℕ) (here : Going m records first s fuel) where
+    abbrev after : Measures → Type 0
+    after x = s' ≡ when_some (due x records s) (stepped x records s) s
+
+    pub goes_on : (step : Step) → Some step ≡ option_map (shown m' records s) (due m' records s) → after m'
+        → to_go m' records s' < to_go m' records s → s'.cycles ≤ 4000 * s'.steps → Further first s s' fuel step
+    goes_on step value told less cheap =
+        let Value : Measures → Type 0 = λ x. Some step ≡ option_map (shown x records s) (due x records s) in
+        let Less : Measures → Type 0 = λ x. to_go x records s' < to_go x records s in
+        going_on first s s' fuel here step (subst Value same value) (subst after same told) (subst Less same less) cheap
+
+    pub record Stopped : Type 0 where
+      pub none : due m records s ≡ None
+      pub stays : s' ≡ s
+      pub end : s' ≡ ran m records first
+      pub no_more : steps_from m records fuel s ≡ []
+
+    pub stops : None ≡ option_map (shown m' records s) (due m' records s) → after m' → Stopped
+    stops value told =
+        let Value : Measures → Type 0 = λ x. None ≡ option_map (shown x records s) (due x records s) in
+        let none = no_step first s fuel here (subst Value same value) in
+        let stays = subst after same told ∙ ap (λ o. when_some o (stepped m records s) s) none in
+        record { none = none; stays = stays; end = stays ∙ at_end first s fuel here none; no_more = no_more_steps first s fuel here fuel none }
 
 some_many : (test : ℕ → Bool) (n from : ℕ) → how_many test from n ≤ n
 some_many test zero from = omega arith

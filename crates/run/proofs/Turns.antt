@@ -15,6 +15,7 @@ use Rattle.trace.specs.Sizes.{records_in}
 use Rattle.trace.specs.Records.{decoded}
 use Rattle.trace.specs.Traces.{wrong_from, records_of, is_of, next_of, when_some}
 use Rattle.trace.proofs.Puts.{not_some}
+use Rattle.trace.proofs.Reading.{too_short, past_records}
 use Rattle.trace.proofs.Copies.{records_many}
 use Rattle.trace.proofs.Known.{known, known_processor}
 use Rattle.run.specs.declared.run.Run.{Run}
@@ -49,6 +50,13 @@ by_lowest bytes p from (Some x) low h = record {
 pub next_at : (bytes : List ℕ) (p from : ℕ) → from ≤ records_in bytes → NextAt bytes p from (next_of p from bytes)
 next_at bytes p from low =
     by_lowest bytes p from (lowest_from (is_of p bytes) from (records_in bytes - from)) low (lowest_tells (is_of p bytes) (records_in bytes - from) from)
+
+-- a record that sixteen bytes give is one of the trace
+pub present : (bytes : List ℕ) (i : ℕ) (r : Record) → Some r ≡ decoded (take 16 (drop (i * 16) bytes)) → i < records_in bytes
+present bytes i r e = elim (leb_tells (records_in bytes) i) [
+  | inl beyond ↦ absurd (not_some (e ∙ too_short _ (past_records bytes i beyond.1)))
+  | inr here ↦ here.1
+]
 
 module _ (processors : ℕ) (bytes : List ℕ) (sound : wrong_from processors 0 0 (records_in bytes) bytes ≡ None) (few : processors ≤ 8) where
   abbrev recs : List Record

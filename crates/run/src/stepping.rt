@@ -148,7 +148,7 @@ impl Run {
 
 impl Run {
     fn unfinished(&self, trace: &Trace, index: usize) -> bool
-        ensures { WasRead trace.now.processors trace.now.records.now → index < records_in trace.now.records.now → result ≡ unfinished_by (records_of trace.now.records.now) self.now.next index }
+        ensures { WasRead trace.now.processors trace.now.records.now → result ≡ unfinished_by (records_of trace.now.records.now) self.now.next index }
     {
         match trace.record(index) {
             Some(record) => {

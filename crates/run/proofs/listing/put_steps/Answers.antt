@@ -1,12 +1,11 @@
-use Rattle.std.proofs.Common.{◌≡◌, ℕ, ◌<◌, ◌≤◌, ◌++◌, length, Some, None, vec_items, sym, refl, ap, subst, ◌∙◌, append_assoc, append-nil, arith}
-use Rattle.std.specs.Option.{option_map}
+use Rattle.std.proofs.Common.{◌≡◌, ℕ, ◌≤◌, ◌++◌, length, vec_items, sym, refl, ap, subst, ◌∙◌, append_assoc, append-nil, arith}
 use Rattle.trace.specs.Sizes.{records_in}
-use Rattle.trace.specs.Traces.{records_of, when_some}
+use Rattle.trace.specs.Traces.{records_of}
 use Rattle.text.specs.Lines.{line_of}
 use Rattle.run.specs.Kept.{state_of, WasRead, Going}
 use Rattle.run.specs.Listing.{lines_of}
-use Rattle.run.specs.Running.{Running, started, due, stepped, shown, to_go, steps_from, steps_of, summary_of}
-use Rattle.run.proofs.Ends.{going_start, going_on, no_step, at_end, no_more_steps, start_few}
+use Rattle.run.specs.Running.{Running, started, to_go, steps_from, steps_of, summary_of}
+use Rattle.run.proofs.Ends.{going_start, goes_on, Stopped, stops, start_few}
 use Rattle.run.proofs.ToCome.{bounded_start, bounded_step}
 use Rattle.run.proofs.Turns.{many, at_first, settled_start}
 use Rattle.run.proofs.listing.put_steps.Goals as goal
@@ -53,10 +52,8 @@ loop-step-preserved g c =
       bounded_step (records_in bytes) step here.run last.self here.cluster.processors last.cluster.processors inv.0 told.stepped,
       λ read.
           let so_far = inv.1 read in
-          let value : Some step ≡ option_map (shown m recs s) (due m recs s) = rw (← same) (told.value read so_far.1) in
-          let after : s' ≡ when_some (due m recs s) (stepped m recs s) s = rw (← same) (told.after read so_far.1) in
-          let less : to_go m recs s' < to_go m recs s = rw (← same) (told.less read so_far.1) in
-          let further = going_on m recs first s s' so_far.0.0 so_far.0.1 step value after less told.cheap in
+          let further = goes_on m recs here.cluster.geometry.measures same first s s' so_far.0.0 so_far.0.1 step
+          (told.value read so_far.1) (told.after read so_far.1) (told.less read so_far.1) told.cheap in
           let rest = lines_of (steps_from m recs further.rest s') in
           let lines = ap (λ l. l ++ rest) c.in_ok-put_step.ensures ∙ append_assoc was (line_of step) rest
           ∙ ap (λ steps. was ++ lines_of steps) (sym further.head) ∙ so_far.0.2 in
@@ -79,20 +76,13 @@ returns g c =
     let last = c.step.new in
     let s' = state_of recs last.self last.cluster.processors last.lines last.locks (g.M.Memory.model last.memory) in
     let told = c.in_default.ensures in
-    let none : WasRead t.processors bytes → due m recs s ≡ None
+    let stop : (read : WasRead t.processors bytes) → Stopped m recs here.cluster.geometry.measures same first s s' (inv.1 read).0.0 (inv.1 read).0.1
     = λ read.
     let so_far = inv.1 read in
-    let value : None ≡ option_map (shown m recs s) (due m recs s) = rw (← same) (told.value read so_far.1) in
-    no_step m recs first s so_far.0.0 so_far.0.1 value in
-    let stays : WasRead t.processors bytes → s' ≡ s
-    = λ read.
-    let after : s' ≡ when_some (due m recs s) (stepped m recs s) s = rw (← same) (told.after read (inv.1 read).1) in
-    after ∙ ap (λ o. when_some o (stepped m recs s) s) (none read) in
+    stops m recs here.cluster.geometry.measures same first s s' so_far.0.0 so_far.0.1 (told.value read so_far.1) (told.after read so_far.1) in
     record {
-      summary = λ read. c.summary.ensures.value read
-          ∙ ap (summary_of m recs) (stays read ∙ at_end m recs first s (inv.1 read).0.0 (inv.1 read).0.1 (none read));
+      summary = λ read. c.summary.ensures.value read ∙ ap (summary_of m recs) (stop read).end;
       lines = λ read.
-          let so_far = inv.1 read in
           sym (append-nil (vec_items here.out))
-          ∙ ap (λ steps. vec_items here.out ++ lines_of steps) (sym (no_more_steps m recs first s so_far.0.0 so_far.0.1 so_far.0.0 (none read))) ∙ so_far.0.2;
+          ∙ ap (λ steps. vec_items here.out ++ lines_of steps) (sym (stop read).no_more) ∙ (inv.1 read).0.2;
     }

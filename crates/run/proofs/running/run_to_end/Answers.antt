@@ -1,9 +1,8 @@
-use Rattle.std.proofs.Common.{◌≡◌, ◌<◌, Some, None, refl, ap, ◌∙◌}
-use Rattle.std.specs.Option.{option_map}
-use Rattle.trace.specs.Traces.{records_of, when_some}
+use Rattle.std.proofs.Common.{◌≡◌, refl, ap, ◌∙◌}
+use Rattle.trace.specs.Traces.{records_of}
 use Rattle.run.specs.Kept.{state_of, WasRead}
-use Rattle.run.specs.Running.{due, stepped, shown, to_go}
-use Rattle.run.proofs.Ends.{going_start, going_on, no_step, at_end}
+use Rattle.run.specs.Running.{due}
+use Rattle.run.proofs.Ends.{going_start, goes_on, stops}
 use Rattle.run.proofs.running.run_to_end.Goals as goal
 
 pub loop-init : goal.loop-init
@@ -25,10 +24,8 @@ loop-preserved g c =
     let s' = state_of recs last.self last.cluster.processors last.lines last.locks (g.M.Memory.model last.memory) in
     let told = c.in-Some.ensures in
     let read : WasRead c.args.trace.now.processors c.args.trace.now.records.now = record { sound = c.requires.sound; served = c.requires.served } in
-    let value : Some c.in-Some.field-0 ≡ option_map (shown m recs s) (due m recs s) = rw (← same) (told.value read inv.1) in
-    let after : s' ≡ when_some (due m recs s) (stepped m recs s) s = rw (← same) (told.after read inv.1) in
-    let less : to_go m recs s' < to_go m recs s = rw (← same) (told.less read inv.1) in
-    let further = going_on m recs first s s' inv.0.0 inv.0.1 c.in-Some.field-0 value after less told.cheap in
+    let further = goes_on m recs here.cluster.geometry.measures same first s s' inv.0.0 inv.0.1 c.in-Some.field-0
+    (told.value read inv.1) (told.after read inv.1) (told.less read inv.1) told.cheap in
     ((further.rest, further.going), told.settled read inv.1, told.geometry ∙ inv.2, told.kept ∙ inv.3)
 
 pub returns : goal.returns
@@ -44,12 +41,10 @@ returns g c =
     let s' = state_of recs last.self last.cluster.processors last.lines last.locks (g.M.Memory.model last.memory) in
     let told = c.in_default.ensures in
     let read : WasRead c.args.trace.now.processors c.args.trace.now.records.now = record { sound = c.requires.sound; served = c.requires.served } in
-    let value : None ≡ option_map (shown m recs s) (due m recs s) = rw (← same) (told.value read inv.1) in
-    let none = no_step m recs first s inv.0.0 inv.0.1 value in
-    let stays : s' ≡ s = (let after : s' ≡ when_some (due m recs s) (stepped m recs s) s = rw (← same) (told.after read inv.1) in after ∙ ap (λ o. when_some o (stepped m recs s) s) none) in
+    let stop = stops m recs here.cluster.geometry.measures same first s s' inv.0.0 inv.0.1 (told.value read inv.1) (told.after read inv.1) in
     record {
-      after = stays ∙ at_end m recs first s inv.0.0 inv.0.1 none;
-      ended = ap (due m recs) stays ∙ none;
+      after = stop.end;
+      ended = ap (due m recs) stop.stays ∙ stop.none;
       geometry = told.geometry ∙ inv.2;
       kept = told.kept ∙ inv.3;
     }

@@ -33,11 +33,11 @@ loop-i-preserved c =
     elim c.if-unfinished.branch [
       | then-unfinished w ↦
           let one : WasRead t.processors bytes → so_far + how_many test i (records_in bytes - i) ≡ so_far + 1 + rest
-          = λ read. many_more test i (records_in bytes) so_far true below (sym (w.if-unfinished.ensures read below)) in
+          = λ read. many_more test i (records_in bytes) so_far true below (sym (w.if-unfinished.ensures read)) in
           rw w.left-is (λ read. sym (one read) ∙ c.loop-i.invariant.0 read, omega (arith, few))
       | else-unfinished w ↦
           let one : WasRead t.processors bytes → so_far + how_many test i (records_in bytes - i) ≡ so_far + 0 + rest
-          = λ read. many_more test i (records_in bytes) so_far false below (sym (w.if-unfinished.ensures read below)) in
+          = λ read. many_more test i (records_in bytes) so_far false below (sym (w.if-unfinished.ensures read)) in
           let none : so_far + rest ≡ so_far + 0 + rest = omega arith in
           rw w.left-is (λ read. none ∙ sym (one read) ∙ c.loop-i.invariant.0 read, omega (arith, few))
     ]
