@@ -1,20 +1,27 @@
 -- The steps of a search over a window.
-use Rattle.std.proofs.Common.{◌≡◌, ℕ, zero, suc, ◌+◌, ◌-◌, ◌^◌, ◌<◌, ◌≤◌, min, Bool, true, false, cond, List, length, get_or, take, drop, Some, None, Option, sym, refl, ap, ◌∙◌, inl, inr, arith, length-drop}
-use Rattle.std.proofs.lemmas.List.{take_all, drop_more}
-use Rattle.std.proofs.lemmas.Bool.Decides.{leb_tells}
-use Rattle.protocol.specs.Finding.{first_in, window_of, lowest_from}
+use Rattle.std.proofs.Common.{◌≡◌, ℕ, zero, suc, ◌+◌, ◌-◌, ◌<◌, ◌≤◌, Bool, true, false, cond, not, ltb, List, [], ◌∷◌, length, get_or, take, drop, Some, None, Option, refl, ap, ◌∙◌, inl, inr, arith}
+use Rattle.std.specs.List.{position, position_or_len}
+use Rattle.std.proofs.lemmas.List.{drop_more}
+use Rattle.std.proofs.lemmas.Bool.Decides.{leb_tells, nat_tests}
+use Rattle.protocol.specs.Finding.{first_in, lowest_from}
 
-take_cut : {X : Type 0} (ys : List X) (m n : ℕ) → m ≡ min n (length ys) → take m ys ≡ take n ys
-take_cut ys m n e =
-    elim (leb_tells n (length ys)) [
-      | inl h ↦ ap (λ k. take k ys) (omega arith)
-      | inr h ↦ take_all m ys (omega arith) ∙ sym (take_all n ys (omega arith))
-    ]
+-- the place that is found is counted from where the list starts
+first_from : {X : Type 0} (test : X → Bool) (at : ℕ) (xs : List X)
+    → first_in test at xs ≡ cond (ltb (position_or_len test xs) (length xs)) (Some (at + position_or_len test xs)) None
+first_from test at [] = refl
+first_from {X} test at (x ∷ xs) = by (test x) (first_from test (at + 1) xs)
+  where
+    by : (b : Bool) → first_in test (at + 1) xs ≡ cond (ltb (position_or_len test xs) (length xs)) (Some (at + 1 + position_or_len test xs)) None
+        → cond b (Some at) (first_in test (at + 1) xs) ≡ cond (ltb (cond (not b) (1 + position_or_len test xs) 0) (suc (length xs))) (Some (at + cond (not b) (1 + position_or_len test xs) 0)) None
+    by true e = grind (arith, nat_tests)
+    by false e = grind (arith, nat_tests, e)
 
-pub window_cut : {X : Type 0} (xs : List X) (from count end : ℕ) → length xs < 2 ^ 64
-    → end ≡ min (length xs) (min (from + count) (2 ^ 64 - 1)) → take (end - from) (drop from xs) ≡ window_of from count xs
-window_cut xs from count end h e =
-    take_cut (drop from xs) (end - from) count (simp length-drop (omega arith))
+module _ {X : Type 0} (test : X → Bool) (at : ℕ) (xs : List X) where
+  pub none_found : None ≡ position test xs → None ≡ first_in test at xs
+  none_found e = grind (arith, first_from test at xs, e)
+
+  pub first_found : (i : ℕ) → Some i ≡ position test xs → Some (at + i) ≡ first_in test at xs
+  first_found i e = grind (arith, first_from test at xs, e)
 
 pub first_more : {X : Type 0} (test : X → Bool) (xs : List X) (i end : ℕ) (d : X) → i < end → end ≤ length xs
     → first_in test i (take (end - i) (drop i xs))

@@ -1,3 +1,2 @@
 pub mod Windows
 pub mod Finding
-pub mod Published

@@ -1,5 +1,5 @@
 -- What a command acts as, the word that it answers and the words that it leaves in its block.
-use Rattle.std.specs.Prelude.{ℕ, ◌%◌, Bool, cond, not, ◌&&◌, List, [], ◌∷◌, ◌==◌, slice_index, slice_set}
+use Rattle.std.specs.Prelude.{ℕ, ◌%◌, Bool, cond, not, ◌&&◌, List, [], ◌∷◌, Some, None, Option, ◌==◌, slice_index, slice_set}
 use Rattle.protocol.specs.declared.state.State.{State}
 use Rattle.protocol.specs.declared.command.Command.{Command}
 use Rattle.protocol.specs.declared.command.Command.TheVariants.{R, W, DW, RI, RP, RB, LR, UW, U}
@@ -27,6 +27,18 @@ acts_as RB address found elsewhere = cond (at_last address) as_rp (cond (not (va
 acts_as LR address found elsewhere = as_lr
 acts_as (UW word) address found elsewhere = as_uw
 acts_as U address found elsewhere = as_u
+
+-- the word that a command writes
+abbrev pub written_by : Command → Option ℕ
+written_by R = None
+written_by (W word) = Some word
+written_by (DW word) = Some word
+written_by RI = None
+written_by RP = None
+written_by RB = None
+written_by LR = None
+written_by (UW word) = Some word
+written_by U = None
 
 -- reading commands answer the addressed word of the block as it was
 abbrev pub word_answered : Command → ℕ → List ℕ → ℕ

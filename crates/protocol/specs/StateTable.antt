@@ -1,32 +1,32 @@
 -- The published state table and snoop table, by cases. One cell differs: W that finds EC leaves EM and not EC, since
 -- the written word would be lost.
-use Rattle.std.specs.Prelude.{ℕ, true, false, Some, None}
+use Rattle.std.specs.Prelude.{ℕ, true, false, Some, None, Option}
 use Rattle.protocol.specs.declared.state.State.{State}
 use Rattle.protocol.specs.declared.state.State.TheVariants.{I, S, SM, EC, EM}
 use Rattle.protocol.specs.declared.command.Action.{Action}
 use Rattle.protocol.specs.declared.command.Action.TheVariants.{R, W, DW, RI, RP, LR, UW, U}
 use Rattle.protocol.specs.declared.command.BusCommand.{BusCommand}
 use Rattle.protocol.specs.declared.command.BusCommand.TheVariants.{F, FI, I as bus_i}
-use Rattle.protocol.specs.declared.table.Cell.{Cell}
-use Rattle.protocol.specs.declared.table.Cell.TheVariants.{MachineCheck, Legal}
+use Rattle.protocol.specs.declared.table.Effect.{Effect}
 
 -- nothing is sent
-abbrev pub stays : State → Cell
-stays left = Legal (record { bus = None; lk = false; from_cache = left; from_memory = left })
+abbrev pub stays : State → Option Effect
+stays left = Some (record { bus = None; lk = false; from_cache = left; from_memory = left })
 
 -- the block is asked for: the state left if a cache supplies it, and if memory does
-abbrev pub fetches : BusCommand → State → State → Cell
-fetches sent supplied loaded = Legal (record { bus = Some sent; lk = false; from_cache = supplied; from_memory = loaded })
+abbrev pub fetches : BusCommand → State → State → Option Effect
+fetches sent supplied loaded = Some (record { bus = Some sent; lk = false; from_cache = supplied; from_memory = loaded })
 
-abbrev pub sends : BusCommand → State → Cell
+abbrev pub sends : BusCommand → State → Option Effect
 sends sent left = fetches sent left left
 
 -- LK goes before the bus command
-abbrev pub locking : Cell → Cell
-locking MachineCheck = MachineCheck
-locking (Legal e) = Legal (record { bus = e.bus; lk = true; from_cache = e.from_cache; from_memory = e.from_memory })
+abbrev pub locking : Option Effect → Option Effect
+locking None = None
+locking (Some e) = Some (record { bus = e.bus; lk = true; from_cache = e.from_cache; from_memory = e.from_memory })
 
-abbrev pub cell_of : Action → State → Cell
+-- none: the command is a machine check
+abbrev pub cell_of : Action → State → Option Effect
 cell_of R EM = stays EM
 cell_of R EC = stays EC
 cell_of R SM = stays SM
@@ -37,20 +37,20 @@ cell_of W EC = stays EM
 cell_of W SM = sends bus_i EM
 cell_of W S = sends bus_i EM
 cell_of W I = fetches FI EM EM
-cell_of DW EM = MachineCheck
-cell_of DW EC = MachineCheck
-cell_of DW SM = MachineCheck
-cell_of DW S = MachineCheck
+cell_of DW EM = None
+cell_of DW EC = None
+cell_of DW SM = None
+cell_of DW S = None
 cell_of DW I = stays EM
 cell_of RI EM = stays EM
 cell_of RI EC = stays EC
-cell_of RI SM = MachineCheck
-cell_of RI S = MachineCheck
+cell_of RI SM = None
+cell_of RI S = None
 cell_of RI I = fetches FI EM EC
 cell_of RP EM = stays I
 cell_of RP EC = stays I
-cell_of RP SM = MachineCheck
-cell_of RP S = MachineCheck
+cell_of RP SM = None
+cell_of RP S = None
 cell_of RP I = fetches FI I I
 cell_of LR EM = stays EM
 cell_of LR EC = stays EC
@@ -59,13 +59,13 @@ cell_of LR S = locking (sends bus_i EM)
 cell_of LR I = locking (fetches FI EM EC)
 cell_of UW EM = stays EM
 cell_of UW EC = stays EM
-cell_of UW SM = MachineCheck
-cell_of UW S = MachineCheck
+cell_of UW SM = None
+cell_of UW S = None
 cell_of UW I = fetches FI EM EM
 cell_of U EM = stays EM
 cell_of U EC = stays EM
-cell_of U SM = MachineCheck
-cell_of U S = MachineCheck
+cell_of U SM = None
+cell_of U S = None
 cell_of U I = stays I
 
 -- what a copy in another cache becomes

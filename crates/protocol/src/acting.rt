@@ -50,15 +50,13 @@ pub fn words_left(command: Command, address: u32, words: [u32; 4]) -> [u32; 4]
     ensures { result ≡ words_left command address words }
 {
     let offset = (address % 4) as usize;
-    let mut left = words;
     match command {
-        Command::DW(word) if offset == 0 => {
-            left = [word, 0, 0, 0];
-        }
+        Command::DW(word) if offset == 0 => [word, 0, 0, 0],
         Command::W(word) | Command::DW(word) | Command::UW(word) => {
+            let mut left = words;
             left[offset] = word;
+            left
         }
-        _ => {}
+        _ => words,
     }
-    left
 }

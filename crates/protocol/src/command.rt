@@ -1,4 +1,6 @@
 // The processors' commands and the bus commands.
+ghost use Rattle.std.specs.Prelude.{◌≡◌};
+ghost use Rattle.protocol.specs.Acting.{written_by};
 
 // A command, with the word that it writes.
 #[derive(Clone, Copy)]
@@ -14,8 +16,20 @@ pub enum Command {
     U,
 }
 
-// What a command acts as: a row of the state table.
-#[derive(Clone, Copy)]
+impl Command {
+    // The word that the command writes, if it writes one.
+    pub fn written(self) -> Option<u32>
+        ensures { result ≡ written_by self }
+    {
+        match self {
+            Command::W(word) | Command::DW(word) | Command::UW(word) => Some(word),
+            _ => None,
+        }
+    }
+}
+
+// What a command acts as. In this order they are the rows of the state table.
+#[derive(Clone, Copy, PartialEq, Eq)]
 pub enum Action {
     R,
     W,
@@ -27,7 +41,8 @@ pub enum Action {
     U,
 }
 
-#[derive(Clone, Copy)]
+// In this order they are the rows of the snoop table.
+#[derive(Clone, Copy, PartialEq, Eq)]
 pub enum BusCommand {
     F,
     FI,

@@ -1,6 +1,55 @@
 // One directory for both tables: the first entry of a window that is in use and whose key lies from a low to a high number.
-ghost use Rattle.std.specs.Prelude.{◌≡◌, ℕ, ◌+◌, ◌<◌, ◌≤◌, Bool, length};
+ghost use Rattle.std.specs.Prelude.{◌≡◌, ℕ, ◌+◌, ◌*◌, ◌/◌, ◌<◌, ◌≤◌, Bool, ◌&&◌, length, nat_le, nat_lt};
+ghost use Rattle.std.specs.List.{position};
 ghost use Rattle.protocol.specs.Finding.{lies_in, unused, first_in, window_of, Within};
+
+// The keys that are looked for, both ends included.
+#[derive(Clone, Copy)]
+pub struct Keys {
+    pub low: u32,
+    pub high: u32,
+}
+
+impl Keys {
+    pub fn only(key: u32) -> Keys
+        ensures { result ≡ record { low = key; high = key } }
+    {
+        Keys {
+            low: key,
+            high: key,
+        }
+    }
+
+    // The addresses of the block that has this one.
+    pub fn of_block_at(address: u32) -> Keys
+        ensures low { result.low ≡ 4 * (address / 4) }
+        ensures high { result.high ≡ 4 * (address / 4) + 3 }
+    {
+        let low = address - address % 4;
+        Keys { low, high: low + 3 }
+    }
+
+    pub fn contains(self, key: u32) -> bool
+        ensures { result ≡ (nat_le self.low key && nat_le key self.high) }
+    {
+        self.low <= key && key <= self.high
+    }
+}
+
+// The places of a table from `from` on, as many as `count`.
+#[derive(Clone, Copy)]
+pub struct Window {
+    pub from: usize,
+    pub count: usize,
+}
+
+impl Window {
+    pub fn contains(self, place: usize) -> bool
+        ensures { result ≡ (nat_le self.from place && nat_lt place (self.from + self.count)) }
+    {
+        self.from <= place && place - self.from < self.count
+    }
+}
 
 pub trait Entry {
     ghost used: { Self → Bool };
@@ -13,11 +62,23 @@ pub trait Entry {
     fn key(&self) -> u32
         ensures { result ≡ label self.now };
 
-    fn lies_in(&self, low: u32, high: u32) -> bool
-        ensures { result ≡ lies_in used label low high self.now }
+    fn lies_in(&self, keys: Keys) -> bool
+        ensures { result ≡ lies_in used label keys.low keys.high self.now }
     {
-        self.in_use() && low <= self.key() && self.key() <= high
+        self.in_use() && keys.contains(self.key())
     }
+}
+
+fn first_between<E: Entry>(entries: &[E], keys: Keys) -> Option<usize>
+    ensures { result ≡ position (lies_in E.used E.label keys.low keys.high) entries.now }
+{
+    entries.iter().position(|e| e.lies_in(keys))
+}
+
+fn first_unused<E: Entry>(entries: &[E]) -> Option<usize>
+    ensures { result ≡ position (unused E.used) entries.now }
+{
+    entries.iter().position(|e| !e.in_use())
 }
 
 #[derive(Drop)]
@@ -25,6 +86,7 @@ pub struct Directory<'a, E> {
     entries: &'a [E],
 }
 
+#[tactic(auto, using(crate::proofs::Finding::none_found, crate::proofs::Finding::first_found))]
 impl<'a, E: Entry> Directory<'a, E> {
     pub fn new(entries: &'a [E]) -> Directory<'a, E>
         ensures { result.entries.now ≡ entries.now }
@@ -32,31 +94,28 @@ impl<'a, E: Entry> Directory<'a, E> {
         Directory { entries }
     }
 
-    // The window has `count` entries, the first at `from`.
-    pub fn find(self, from: usize, count: usize, low: u32, high: u32) -> Option<usize>
-        ensures value { result ≡ first_in (lies_in E.used E.label low high) from (window_of from count self.entry.entries.now) }
-        ensures within { Within from count self.entry.entries.now result }
+    // The entries of the window that the table has.
+    fn entries_in(self, window: Window) -> &'a [E]
+        ensures { result.now ≡ window_of window.from window.count self.entry.entries.now }
     {
-        let end = self.entries.len().min(from.saturating_add(count));
-        for i in from..end {
-            if self.entries[i].lies_in(low, high) {
-                return Some(i);
-            }
-        }
-        None
+        let (_, behind) = self.entries.split_at(window.from.min(self.entries.len()));
+        &behind[..window.count.min(behind.len())]
+    }
+
+    pub fn find(self, window: Window, keys: Keys) -> Option<usize>
+        ensures value { result ≡ first_in (lies_in E.used E.label keys.low keys.high) window.from (window_of window.from window.count self.entry.entries.now) }
+        ensures within { Within window.from window.count self.entry.entries.now result }
+    {
+        let place = first_between(self.entries_in(window), keys)?;
+        Some(window.from + place)
     }
 
     // The first entry of the window that is not in use.
-    pub fn free(self, from: usize, count: usize) -> Option<usize>
-        ensures value { result ≡ first_in (unused E.used) from (window_of from count self.entry.entries.now) }
-        ensures within { Within from count self.entry.entries.now result }
+    pub fn free(self, window: Window) -> Option<usize>
+        ensures value { result ≡ first_in (unused E.used) window.from (window_of window.from window.count self.entry.entries.now) }
+        ensures within { Within window.from window.count self.entry.entries.now result }
     {
-        let end = self.entries.len().min(from.saturating_add(count));
-        for place in from..end {
-            if !self.entries[place].in_use() {
-                return Some(place);
-            }
-        }
-        None
+        let place = first_unused(self.entries_in(window))?;
+        Some(window.from + place)
     }
 }

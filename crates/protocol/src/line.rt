@@ -24,14 +24,9 @@ impl Line {
     pub fn with_state(self, state: State) -> Line
         ensures { result ≡ in_state self state }
     {
-        let words = self.words;
         match state {
             State::I => Line::BLANK,
-            _ => Line {
-                state,
-                block: self.block,
-                words,
-            },
+            _ => Line { state, ..self },
         }
     }
 }

@@ -4,7 +4,7 @@ ghost use Rattle.protocol.specs.Entries.{locked};
 use crate::directory::Entry;
 
 // Empty, locked, or locked while somebody waits. E stands first: it is the state of a blank entry.
-#[derive(Clone, Copy)]
+#[derive(Clone, Copy, PartialEq, Eq)]
 pub enum LockState {
     E,
     L,
@@ -30,10 +30,7 @@ impl Entry for LockEntry {
     ghost label = { λ e. e.address };
 
     fn in_use(&self) -> bool {
-        match self.state {
-            LockState::E => false,
-            _ => true,
-        }
+        self.state != LockState::E
     }
 
     fn key(&self) -> u32 {

@@ -4,6 +4,7 @@ ghost use Rattle.protocol.specs.Limits.{lawful, measured, LowCosts};
 ghost use Rattle.protocol.specs.Standard.{with_columns};
 ghost use Rattle.protocol.specs.Places.{line_count, lock_count, window_start, locks_start};
 
+use crate::directory::Window;
 use crate::geometry::Geometry;
 use crate::measures::{Costs, Measures};
 use crate::refusal::Refusal;
@@ -13,17 +14,12 @@ impl Geometry {
         ensures { measured result ≡ (if lawful measures then Ok measures else Err Refusal.Geometry) }
     {
         let costs = measures.costs;
-        if measures.processors < 1 || measures.processors > 8 {
-            return Err(Refusal::Geometry);
-        }
-        if !measures.columns.is_power_of_two()
+        if !(1..=8).contains(&measures.processors)
+            || !measures.columns.is_power_of_two()
             || measures.columns > 256
-            || measures.ways < 1
-            || measures.ways > 4
+            || !(1..=4).contains(&measures.ways)
+            || !(1..=4).contains(&measures.lock_entries)
         {
-            return Err(Refusal::Geometry);
-        }
-        if measures.lock_entries < 1 || measures.lock_entries > 4 {
             return Err(Refusal::Geometry);
         }
         if costs.swap_in > 1000
@@ -87,20 +83,26 @@ impl Geometry {
         self.measures.processors as usize * self.measures.lock_entries
     }
 
-    // The first line of the block's window in the processor's cache.
-    pub fn window(&self, processor: u8, block: u32) -> usize
-        ensures value { result ≡ window_start self.now.measures processor block }
-        ensures within { processor < self.now.measures.processors → result + self.now.measures.ways ≤ line_count self.now.measures }
+    // The lines that the block may stand in, in the processor's cache.
+    pub fn window(&self, processor: u8, block: u32) -> Window
+        ensures value { result ≡ record { from = window_start self.now.measures processor block; count = self.now.measures.ways } }
+        ensures within { processor < self.now.measures.processors → result.from + result.count ≤ line_count self.now.measures }
     {
         let column = block as usize % self.measures.columns;
-        (processor as usize * self.measures.columns + column) * self.measures.ways
+        Window {
+            from: (processor as usize * self.measures.columns + column) * self.measures.ways,
+            count: self.measures.ways,
+        }
     }
 
-    // The first of the processor's lock entries.
-    pub fn locks_of(&self, processor: u8) -> usize
-        ensures value { result ≡ locks_start self.now.measures processor }
-        ensures within { processor < self.now.measures.processors → result + self.now.measures.lock_entries ≤ lock_count self.now.measures }
+    // The processor's lock entries.
+    pub fn locks_of(&self, processor: u8) -> Window
+        ensures value { result ≡ record { from = locks_start self.now.measures processor; count = self.now.measures.lock_entries } }
+        ensures within { processor < self.now.measures.processors → result.from + result.count ≤ lock_count self.now.measures }
     {
-        processor as usize * self.measures.lock_entries
+        Window {
+            from: processor as usize * self.measures.lock_entries,
+            count: self.measures.lock_entries,
+        }
     }
 }
