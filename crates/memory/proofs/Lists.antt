@@ -1,5 +1,5 @@
 -- What a dead list is filled with, and what is found in it.
-use Rattle.std.proofs.Common.{◌≡◌, ℕ, zero, suc, ◌+◌, ◌-◌, ◌<◌, ◌≤◌, eqb, List, [], ◌∷◌, ◌++◌, map, length, get_or, replicate, Some, None, Option, refl, ap, ◌∙◌, subst, inl, inr, sym, arith, rules, le-leb, leb, true}
+use Rattle.std.proofs.Common.{◌≡◌, ℕ, zero, suc, ◌+◌, ◌-◌, ◌<◌, ◌≤◌, eqb, List, [], ◌∷◌, ◌++◌, map, length, get_or, replicate, Some, None, Option, refl, ap, ◌∙◌, inl, inr, sym, arith}
 use denote.Param.Members.{Mut}
 use Rattle.std.specs.Array.{IsFromFnResultFrom}
 use Rattle.std.specs.Fn.{Called}
@@ -9,7 +9,7 @@ use Rattle.std.proofs.lemmas.Grind.{common_steps}
 use Rattle.std.proofs.lemmas.Bool.Decides.{eqb_tells}
 use Rattle.std.proofs.lemmas.List.{places, same_lists, get_or_default, length-append, length-map, length-replicate}
 use Rattle.std.proofs.lemmas.Option.{gets}
-use Rattle.memory.specs.Dead.{names, listed, filled}
+use Rattle.memory.specs.Dead.{listed, filled}
 
 pub any_listed : (block : ℕ) (entries : List (Option ℕ)) → list_any (λ y. option_eq eqb y (Some block)) entries ≡ listed entries block
 any_listed block [] = refl
@@ -36,5 +36,5 @@ pub filled_places : (numbers : List ℕ) (blocks : List (Option ℕ)) → length
 filled_places numbers blocks few long at =
     same_lists blocks (filled numbers) (simp (length-append, length-map, length-replicate) (omega arith))
     (λ k d h.
-        let small : k < length (filled numbers) = simp (length-append, length-map, length-replicate) (omega arith) in
-        get_or_default blocks k d None h ∙ at k (omega arith) ∙ sym (filled_at numbers (16 - length numbers) k (omega arith)) ∙ get_or_default (filled numbers) k None d small)
+    let small : k < length (filled numbers) = simp (length-append, length-map, length-replicate) (omega arith) in
+    get_or_default blocks k d None h ∙ at k (omega arith) ∙ sym (filled_at numbers (16 - length numbers) k (omega arith)) ∙ get_or_default (filled numbers) k None d small)

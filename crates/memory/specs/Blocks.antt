@@ -5,8 +5,8 @@ use Rattle.protocol.specs.declared.refusal.Refusal.{Refusal}
 use Rattle.protocol.specs.declared.refusal.Refusal.TheVariants.{Memory}
 use Rattle.memory.specs.Meaning.{Mem, grants}
 
-abbrev pub block_read : Mem → ℕ → Result (List ℕ) Refusal
-block_read m block = cond (grants m block) (Ok (m.words block)) (Err (Memory block Read))
+abbrev pub block_reading : Mem → ℕ → Result (List ℕ) Refusal
+block_reading m block = cond (grants m block) (Ok (m.words block)) (Err (Memory block Read))
 
 -- what is written is `written` of Meaning
 abbrev pub block_granted : Mem → ℕ → Result (Unit {0}) Refusal

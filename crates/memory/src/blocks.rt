@@ -1,13 +1,13 @@
 // One block read or written, with the refusal where memory denies it.
 ghost use Rattle.std.specs.Prelude.{◌≡◌};
-ghost use Rattle.memory.specs.Blocks.{block_read, block_granted};
+ghost use Rattle.memory.specs.Blocks.{block_reading, block_granted};
 ghost use Rattle.memory.specs.Meaning.{written};
 
 use crate::memory::Memory;
 use protocol::refusal::{Direction, Refusal};
 
 pub fn read_block<M: Memory>(memory: &M, block: u32) -> Result<[u32; 4], Refusal>
-    ensures { result ≡ block_read (M.Memory.model memory.now) block }
+    ensures { result ≡ block_reading (M.Memory.model memory.now) block }
 {
     memory
         .read(block)

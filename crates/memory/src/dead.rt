@@ -1,6 +1,6 @@
 // A list of at most 16 dead blocks.
 ghost use Rattle.std.specs.Prelude.{◌≡◌, length, replicate, if◌then◌else◌, None, Ok, Err, nat_le};
-ghost use Rattle.memory.specs.Dead.{names, listed, filled};
+ghost use Rattle.memory.specs.Dead.{listed, filled};
 
 use protocol::refusal::Refusal;
 use std::array;

@@ -1,4 +1,4 @@
-use Rattle.std.proofs.Common.{◌≡◌, List, ℕ, ◌<◌, true, leb, replicate, get_or, length, None, arith, le-leb, rules}
+use Rattle.std.proofs.Common.{◌≡◌, true, leb, length, None, arith, le-leb, rules}
 use Rattle.std.specs.List.{slice_get}
 use Rattle.std.proofs.lemmas.Option.{gets}
 use Rattle.memory.proofs.Lists.{from_fn_at, filled_places}
