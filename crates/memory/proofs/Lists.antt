@@ -1,38 +1,40 @@
--- The steps of filling a dead list and of looking a block up in it.
-use Rattle.std.proofs.Common.{◌≡◌, ℕ, suc, ◌+◌, ◌-◌, ◌<◌, ◌≤◌, true, false, List, [], ◌∷◌, ◌++◌, map, length, get_or, take, drop, set, replicate, Some, None, Option, sym, refl, ap, ◌∙◌, append_assoc, arith, length-take}
-use Rattle.std.proofs.lemmas.List.{at_drop_more, at_drop_all, set-append_right, map_more, length-map, take_all}
-use Rattle.memory.specs.Dead.{names, listed, filled}
+-- What a dead list is filled with, and what is found in it.
+use Rattle.std.proofs.Common.{◌≡◌, ℕ, zero, suc, ◌+◌, ◌-◌, ◌<◌, ◌≤◌, eqb, List, [], ◌∷◌, ◌++◌, map, length, get_or, replicate, Some, None, Option, refl, ap, ◌∙◌, inl, inr, sym, arith}
+use denote.Param.Members.{Mut}
+use Rattle.std.specs.Array.{IsFromFnResultFrom}
+use Rattle.std.specs.Fn.{Called}
+use Rattle.std.specs.List.{list_any, slice_get}
+use Rattle.std.specs.Option.{option_eq}
+use Rattle.std.proofs.lemmas.Grind.{common_steps}
+use Rattle.std.proofs.lemmas.Bool.Decides.{eqb_tells}
+use Rattle.std.proofs.lemmas.List.{places, same_lists, get_or_default, length-append, length-map, length-replicate}
+use Rattle.std.proofs.lemmas.Option.{gets}
+use Rattle.memory.specs.Dead.{listed, filled}
 
-abbrev partly : List ℕ → ℕ → List (Option ℕ)
-partly numbers i = map Some (take i numbers) ++ replicate (16 - i) None
+pub any_listed : (block : ℕ) (entries : List (Option ℕ)) → list_any (λ y. option_eq eqb y (Some block)) entries ≡ listed entries block
+any_listed block [] = refl
+any_listed block (None ∷ entries) = any_listed block entries
+any_listed block (Some dead ∷ entries) = rw (any_listed block entries)
 
-pub listed_hit : (entries : List (Option ℕ)) (i block : ℕ) (d : Option ℕ) → i < length entries
-    → true ≡ names (get_or entries i d) block → listed (drop i entries) block ≡ true
-listed_hit entries i block d h e = at_drop_more (λ ys. listed ys block) entries i d h ∙ rw (← e)
+-- what `array::from_fn` makes of a closure that gives h i at i, as long as J holds of it
+module _ {F B : Type 0} (g : Mut F (ℕ × Unit {0}) B) (h : ℕ → B) (J : F → Type 0)
+    (step : (i : ℕ) (p q : F) (y : B) → J p → Called g p (i, tt) y q → J q × (y ≡ h i)) where
+  pub from_fn_at : (f : F) (ys : List B) (i n k : ℕ) (d : B) → J f → IsFromFnResultFrom g f ys i n → i ≤ k → k < i + n
+      → get_or ys k d ≡ h k
+  from_fn_at f ys i zero k d j r le lt = absurd (omega arith)
+  from_fn_at f ys i (suc n) k d j (q, y, at, call, rest) le lt =
+      elim (eqb_tells k i) [
+        | inl e ↦ ap (λ m. get_or ys m d) e.1 ∙ at.1 d ∙ (step i f q y j call).1 ∙ ap h (sym e.1)
+        | inr e ↦ from_fn_at q ys (i + 1) n k d (step i f q y j call).0 rest (omega arith) (omega arith)
+      ]
 
-pub listed_miss : (entries : List (Option ℕ)) (i block : ℕ) (d : Option ℕ) → i < length entries
-    → false ≡ names (get_or entries i d) block → listed (drop i entries) block ≡ listed (drop (i + 1) entries) block
-listed_miss entries i block d h e = at_drop_more (λ ys. listed ys block) entries i d h ∙ rw (← e)
+filled_at : (numbers : List ℕ) (n i : ℕ) → i < length numbers + n → get_or (map Some numbers ++ replicate n None) i None ≡ slice_get numbers i
+filled_at numbers n i h = grind (arith, common_steps, gets, places)
 
-pub listed_end : (entries : List (Option ℕ)) (i block : ℕ) → length entries ≤ i → listed (drop i entries) block ≡ false
-listed_end entries i block h = at_drop_all (λ ys. listed ys block) entries i h
-
-pub filled_more : (numbers : List ℕ) (blocks : List (Option ℕ)) (i : ℕ) → i < length numbers → i < 16
-    → blocks ≡ partly numbers i → set blocks i (Some (get_or numbers i 0)) ≡ partly numbers (i + 1)
-filled_more numbers blocks i h few e =
-    let one : 16 - i ≡ suc (16 - (i + 1)) = omega arith in
-    let front : length (map Some (take i numbers)) ≡ i = simp (length-map, length-take) (omega arith) in
-    let start : i - i ≡ 0 = omega arith in
-    let rest : set (replicate (16 - i) None) (i - i) (Some (get_or numbers i 0)) ≡ Some (get_or numbers i 0) ∷ replicate (16 - (i + 1)) None =
-    rw (start, one) refl in
-    ap (λ xs. set xs i (Some (get_or numbers i 0))) e
-    ∙ set-append_right (map Some (take i numbers)) (replicate (16 - i) None) i i (Some (get_or numbers i 0)) front (omega arith)
-    ∙ ap (λ xs. map Some (take i numbers) ++ xs) rest
-    ∙ sym (append_assoc (map Some (take i numbers)) (Some (get_or numbers i 0) ∷ []) (replicate (16 - (i + 1)) None))
-    ∙ ap (λ xs. xs ++ replicate (16 - (i + 1)) None) (sym (map_more Some numbers i 0 h))
-
-pub filled_all : (numbers : List ℕ) (blocks : List (Option ℕ)) (i : ℕ) → i ≡ length numbers → blocks ≡ partly numbers i
-    → blocks ≡ filled numbers
-filled_all numbers blocks i end e =
-    e ∙ ap (λ xs. map Some xs ++ replicate (16 - i) None) (take_all i numbers (omega arith))
-    ∙ ap (λ n. map Some numbers ++ replicate (16 - n) None) end
+pub filled_places : (numbers : List ℕ) (blocks : List (Option ℕ)) → length numbers ≤ 16 → length blocks ≡ 16
+    → ((i : ℕ) → i < 16 → get_or blocks i None ≡ slice_get numbers i) → blocks ≡ filled numbers
+filled_places numbers blocks few long at =
+    same_lists blocks (filled numbers) (simp (length-append, length-map, length-replicate) (omega arith))
+    (λ k d h.
+    let small : k < length (filled numbers) = simp (length-append, length-map, length-replicate) (omega arith) in
+    get_or_default blocks k d None h ∙ at k (omega arith) ∙ sym (filled_at numbers (16 - length numbers) k (omega arith)) ∙ get_or_default (filled numbers) k None d small)

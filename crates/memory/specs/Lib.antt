@@ -1,3 +1,4 @@
+pub mod Blocks
 pub mod Copying
 pub mod Dead
 pub mod Layers

@@ -3,9 +3,10 @@ ghost use Rattle.std.specs.Prelude.{◌≡◌};
 ghost use Rattle.memory.specs.Copying.{copied, copying};
 ghost use Rattle.memory.specs.Words.{table_of};
 
+use crate::blocks::{read_block, write_block};
 use crate::memory::Memory;
 use crate::word_table::WordTable;
-use protocol::refusal::{Direction, Refusal};
+use protocol::refusal::Refusal;
 
 // Refuses with 11 a block that memory does not read or write, and memory is then as it was.
 pub fn copy_block<M: Memory>(memory: &mut M, from: u32, to: u32) -> Result<(), Refusal>
@@ -13,13 +14,8 @@ pub fn copy_block<M: Memory>(memory: &mut M, from: u32, to: u32) -> Result<(), R
     ensures after { M.Memory.model memory.new ≡ copied (M.Memory.model memory.old) from to }
     ensures kept { M.Memory.standing memory.new ≡ M.Memory.standing memory.old }
 {
-    let Ok(words) = memory.read(from) else {
-        return Err(Refusal::Memory(from, Direction::Read));
-    };
-    match memory.write(to, words) {
-        Ok(()) => Ok(()),
-        Err(_) => Err(Refusal::Memory(to, Direction::Write)),
-    }
+    let words = read_block(memory, from)?;
+    write_block(memory, to, words)
 }
 
 // What the lender of the table finds in it afterwards.

@@ -1,21 +1,13 @@
 // A list of at most 16 dead blocks.
 ghost use Rattle.std.specs.Prelude.{◌≡◌, length, replicate, if◌then◌else◌, None, Ok, Err, nat_le};
-ghost use Rattle.memory.specs.Dead.{names, listed, filled};
+ghost use Rattle.memory.specs.Dead.{listed, filled};
 
 use protocol::refusal::Refusal;
+use std::array;
 
 #[derive(Clone, Copy)]
 pub struct DeadList {
     blocks: [Option<u32>; 16],
-}
-
-fn is_block(entry: Option<u32>, block: u32) -> bool
-    ensures { result ≡ names entry block }
-{
-    match entry {
-        Some(dead) => dead == block,
-        None => false,
-    }
 }
 
 impl DeadList {
@@ -33,23 +25,13 @@ impl DeadList {
         if numbers.len() > 16 {
             return Err(Refusal::DeadList);
         }
-        let mut entries = [None; 16];
-        for i in 0..numbers.len() {
-            entries[i] = Some(numbers[i]);
-        }
-        self.blocks = entries;
+        self.blocks = array::from_fn(|i| numbers.get(i).copied());
         Ok(())
     }
 
     pub fn contains(&self, block: u32) -> bool
         ensures { result ≡ listed self.now.blocks block }
     {
-        let entries: &[Option<u32>] = &self.blocks;
-        for entry in entries {
-            if is_block(*entry, block) {
-                return true;
-            }
-        }
-        false
+        self.blocks.contains(&Some(block))
     }
 }

@@ -23,6 +23,7 @@ impl<P: Memory, Q: Memory> Interleave<P, Q> {
     }
 }
 
+// `read` and `write` choose the half alike: one helper for both would have to lend it as & and as &mut.
 impl<P: Memory, Q: Memory> Memory for Interleave<P, Q> {
     ghost model = { λ s. interleaved (P.Memory.model s.first) (Q.Memory.model s.second) };
 

@@ -1,6 +1,7 @@
 // Memories of four-word blocks, one meaning for all.
 #![tactic(auto)]
 
+pub mod blocks;
 pub mod copying;
 pub mod dead;
 pub mod interleave;

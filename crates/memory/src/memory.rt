@@ -11,7 +11,7 @@ pub trait Memory {
 
     ghost lawful: { (s : Self) → Lawful (model s) };
 
-    // The loans that it stands on, which no call changes.
+    // The loans that it stands on, which no call changes: a clause of each, since an invariant sees one value and not two.
     ghost standing: { Self → Standing };
 
     fn blocks(&self) -> u32

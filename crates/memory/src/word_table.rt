@@ -56,13 +56,8 @@ impl<'a> Memory for WordTable<'a> {
         if block >= self.blocks() {
             return Err(Denied);
         }
-        let at = block as usize * 4;
-        Ok([
-            self.words[at],
-            self.words[at + 1],
-            self.words[at + 2],
-            self.words[at + 3],
-        ])
+        let (blocks, _) = self.words.as_chunks::<4>();
+        Ok(blocks[block as usize])
     }
 
     fn write(&mut self, block: u32, words: [u32; 4]) -> Result<(), Denied> {
@@ -70,10 +65,7 @@ impl<'a> Memory for WordTable<'a> {
             return Err(Denied);
         }
         let at = block as usize * 4;
-        self.words[at] = words[0];
-        self.words[at + 1] = words[1];
-        self.words[at + 2] = words[2];
-        self.words[at + 3] = words[3];
+        self.words[at..at + 4].copy_from_slice(&words);
         Ok(())
     }
 }
