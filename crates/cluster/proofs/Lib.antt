@@ -1,3 +1,2 @@
 pub mod Mapping
-pub mod Swaps
 pub mod Waits

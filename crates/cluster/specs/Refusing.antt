@@ -1,5 +1,5 @@
 -- Refusals 3 to 10 of a command, in their order, and what a command meets that none of them refuses.
-use Rattle.std.specs.Prelude.{ℕ, ◌*◌, ◌/◌, Bool, true, false, cond, not, ◌&&◌, ◌||◌, List, [], ◌∷◌, is_some, None, Ok, Err, Option, Result, nat_le, slice_index_or}
+use Rattle.std.specs.Prelude.{ℕ, ◌*◌, ◌/◌, Bool, true, false, cond, not, ◌&&◌, ◌||◌, List, [], ◌∷◌, is_some, Some, None, Ok, Err, Option, Result, nat_le, slice_index_or}
 use Rattle.protocol.specs.declared.command.Action.{Action}
 use Rattle.protocol.specs.declared.command.Action.TheVariants.{R, W, DW, RI, RP, LR, UW, U}
 use Rattle.protocol.specs.declared.command.Request.{Request}
@@ -9,8 +9,6 @@ use Rattle.protocol.specs.declared.measures.Measures.{Measures}
 use Rattle.protocol.specs.declared.refusal.Refusal.{Refusal}
 use Rattle.protocol.specs.declared.refusal.Refusal.TheVariants.{Processor as NoProcessor, Address, Waiting, LockHeld, NoLockEntry, NoLock, CopyElsewhere, MachineCheck as Checked}
 use Rattle.protocol.specs.declared.state.State.{State}
-use Rattle.protocol.specs.declared.table.Cell.{Cell}
-use Rattle.protocol.specs.declared.table.Cell.TheVariants.{MachineCheck, Legal}
 use Rattle.protocol.specs.declared.table.Effect.{Effect}
 use Rattle.protocol.specs.Acting.{acts_as}
 use Rattle.protocol.specs.Entries.{valid}
@@ -60,9 +58,9 @@ entry_used m locks q =
     (cond (releases_lock q.command) (held_entry m locks q.processor q.address) None)
 
 -- 10 where the cell says so
-abbrev pub unless_checked : State → Cell → (Effect → Case) → Result Case Refusal
-unless_checked found MachineCheck case = Err (Checked found)
-unless_checked found (Legal effect) case = Ok (case effect)
+abbrev pub unless_checked : State → Option Effect → (Effect → Case) → Result Case Refusal
+unless_checked found None case = Err (Checked found)
+unless_checked found (Some effect) case = Ok (case effect)
 
 -- 9 and 10, and else what the command meets
 abbrev pub case_met : Measures → List Line → List LockEntry → Request → Option ℕ → Result Case Refusal

@@ -10,12 +10,11 @@ use Rattle.cluster.specs.Making.{resting}
 use Rattle.cluster.specs.Tables.{map_from}
 
 -- the block that a processor waits for; one that the geometry does not have never waits
-abbrev pub awaited : Cluster → ℕ → Option ℕ
-awaited c processor = cond (nat_lt processor c.geometry.measures.processors) (get_or c.processors processor resting).waits_for None
-
--- the same, told by the measures and the processors' records
 abbrev pub awaited_in : Measures → List Processor → ℕ → Option ℕ
 awaited_in m ps processor = cond (nat_lt processor m.processors) (get_or ps processor resting).waits_for None
+
+abbrev pub awaited : Cluster → ℕ → Option ℕ
+awaited c processor = awaited_in c.geometry.measures c.processors processor
 
 pub record Ready (ps : List Processor) (processor : ℕ) : Type 0 where
   pub listed : processor < length ps

@@ -4,19 +4,18 @@ ghost use Rattle.protocol.specs.Places.{line_count};
 ghost use Rattle.cluster.specs.Cases.{Sound};
 ghost use Rattle.cluster.specs.Doing.{asks_for_block, lock_hit, takes_way};
 ghost use Rattle.cluster.specs.Refusing.{unless_refused, is_direct_write, admission, lock_tests, entry_used, case_met, case_of};
-ghost use Rattle.cluster.specs.Settling.{takes_lock, releases_lock};
+ghost use Rattle.cluster.specs.Settling.{takes_lock};
 ghost use Rattle.cluster.specs.Waiting.{Ready};
 
-use crate::caches::{line_at, line_of, supplier};
+use crate::caches::line_at;
 use crate::cluster::{Cluster, Processor};
-use crate::locks::{free_entry, held_entry, lock_holder};
 use protocol::acting::acts_as;
 use protocol::command::{Action, BusCommand, Command, Request};
 use protocol::line::Line;
 use protocol::lock::LockEntry;
 use protocol::refusal::Refusal;
 use protocol::state::State;
-use protocol::table::{Cell, Effect, look_up};
+use protocol::table::{Effect, look_up};
 
 // `place` is the line found in the own cache, `entry` the lock entry that is written or emptied,
 // `copy` the supplier and `holder` the lowest other processor with a lock in the block.
@@ -38,29 +37,14 @@ pub struct Case {
 pub(crate) fn takes_lock(command: Command) -> bool
     ensures { result ≡ takes_lock command }
 {
-    match command {
-        Command::LR => true,
-        _ => false,
-    }
-}
-
-fn releases_lock(command: Command) -> bool
-    ensures { result ≡ releases_lock command }
-{
-    match command {
-        Command::U | Command::UW(_) => true,
-        _ => false,
-    }
+    matches!(command, Command::LR)
 }
 
 // F and FI ask for the block.
 pub(crate) fn asks_for_block(bus: Option<BusCommand>) -> bool
     ensures { result ≡ asks_for_block bus }
 {
-    match bus {
-        Some(BusCommand::F) | Some(BusCommand::FI) => true,
-        _ => false,
-    }
+    matches!(bus, Some(BusCommand::F | BusCommand::FI))
 }
 
 impl Case {
@@ -79,20 +63,14 @@ impl Case {
     pub(crate) fn takes_way(&self) -> bool
         ensures { result ≡ takes_way self.now }
     {
-        match self.action {
-            Action::U => false,
-            _ => !self.found.is_valid(),
-        }
+        self.action != Action::U && !self.found.is_valid()
     }
 }
 
 fn is_direct_write(action: Action) -> bool
     ensures { result ≡ is_direct_write action }
 {
-    match action {
-        Action::DW => true,
-        _ => false,
-    }
+    action == Action::DW
 }
 
 impl Cluster {
@@ -101,25 +79,16 @@ impl Cluster {
         ensures value { result ≡ unless_refused (lock_tests self.now.geometry.measures locks.now request) (Ok (entry_used self.now.geometry.measures locks.now request)) }
         ensures within { IfOk result (λ e. IfSome e (λ i. i < length locks.now)) }
     {
-        let held = held_entry(&self.geometry, locks, request.processor, request.address);
-        if takes_lock(request.command) {
-            if held.is_some() {
-                return Err(Refusal::LockHeld);
-            }
-            let free = free_entry(&self.geometry, locks, request.processor);
-            return if free.is_some() {
-                Ok(free)
-            } else {
-                Err(Refusal::NoLockEntry)
-            };
-        }
-        if !releases_lock(request.command) {
-            return Ok(None);
-        }
-        if held.is_some() {
-            Ok(held)
-        } else {
-            Err(Refusal::NoLock)
+        let held = self.held_entry(locks, request.processor, request.address);
+        match request.command {
+            Command::LR if held.is_some() => Err(Refusal::LockHeld),
+            Command::LR => match self.free_entry(locks, request.processor) {
+                None => Err(Refusal::NoLockEntry),
+                free => Ok(free),
+            },
+            Command::U | Command::UW(_) if held.is_none() => Err(Refusal::NoLock),
+            Command::U | Command::UW(_) => Ok(held),
+            _ => Ok(None),
         }
     }
 
@@ -136,10 +105,10 @@ impl Cluster {
             return Err(Refusal::Address);
         }
         let table: &[Processor] = &self.processors;
-        match table[request.processor as usize].waits_for {
-            Some(_) => Err(Refusal::Waiting),
-            None => Ok(()),
+        if table[request.processor as usize].waits_for.is_some() {
+            return Err(Refusal::Waiting);
         }
+        Ok(())
     }
 
     // Refusals 9 and 10.
@@ -158,30 +127,28 @@ impl Cluster {
         ensures same { IfOk result (λ case. case.processor ≡ request.processor) }
     {
         let block = request.address / 4;
-        let place = line_of(&self.geometry, lines, request.processor, block);
+        let place = self.line_of(lines, request.processor, block);
         let found = line_at(lines, place).state;
-        let copy = supplier(&self.geometry, lines, request.processor, block);
-        let holder = lock_holder(&self.geometry, locks, request.processor, block);
+        let copy = self.supplier(lines, request.processor, block);
+        let holder = self.lock_holder(locks, request.processor, request.address);
         let action = acts_as(request.command, request.address, found, copy.is_some());
         if is_direct_write(action) && !found.is_valid() && (copy.is_some() || holder.is_some()) {
             return Err(Refusal::CopyElsewhere);
         }
-        match look_up(action, found) {
-            Cell::MachineCheck => Err(Refusal::MachineCheck(found)),
-            Cell::Legal(effect) => Ok(Case {
-                processor: request.processor,
-                command: request.command,
-                address: request.address,
-                block,
-                action,
-                place,
-                found,
-                effect,
-                copy,
-                holder,
-                entry,
-            }),
-        }
+        let effect = look_up(action, found).ok_or(Refusal::MachineCheck(found))?;
+        Ok(Case {
+            processor: request.processor,
+            command: request.command,
+            address: request.address,
+            block,
+            action,
+            place,
+            found,
+            effect,
+            copy,
+            holder,
+            entry,
+        })
     }
 
     pub(crate) fn case_of(

@@ -1,15 +1,13 @@
 // The command call: memory is read first, then the swap-out is written, then the tables change.
-ghost use Rattle.std.specs.Prelude.{◌≡◌, ◌≤◌, length, IfOk, if◌then◌else◌, Ok, Err};
+ghost use Rattle.std.specs.Prelude.{◌≡◌, ◌≤◌, length, IfOk, if◌then◌else◌, Ok, Err, ◌==◌};
 ghost use Rattle.protocol.specs.Answers.{cycles_in};
-ghost use Rattle.protocol.specs.Places.{line_count};
-ghost use Rattle.cluster.specs.Cases.{Sound};
+ghost use Rattle.protocol.specs.Places.{line_count, lock_count};
 ghost use Rattle.cluster.specs.Making.{tables_fit};
-ghost use Rattle.cluster.specs.Rule.{swapping, supplying, proceeding, meeting, command_rule};
-ghost use Rattle.cluster.specs.Waiting.{Ready, WaitsMore, FewerIdle};
+ghost use Rattle.cluster.specs.Rule.{command_rule};
+ghost use Rattle.cluster.specs.Waiting.{WaitsMore, FewerIdle};
 
-use crate::case::Case;
 use crate::cluster::Cluster;
-use crate::supply::{Supply, fetch, swap_out, victim};
+use crate::supply::{swap_out, victim};
 use memory::memory::Memory;
 use protocol::answer::Answer;
 use protocol::command::Request;
@@ -18,123 +16,31 @@ use protocol::lock::LockEntry;
 use protocol::refusal::Refusal;
 
 impl Cluster {
-    // The victim is written before the tables change.
-    fn swap_and_finish<M: Memory>(
-        &mut self,
-        lines: &mut [Line],
-        locks: &mut [LockEntry],
-        memory: &mut M,
-        case: &Case,
-        supply: Supply,
-    ) -> Result<Answer, Refusal>
-        requires rows { length lines.old ≡ line_count self.old.geometry.measures }
-        requires sound { Sound self.old.geometry.measures (length lines.old) (length locks.old) case.now }
-        ensures answer { result ≡ (swapping self.old.geometry.measures self.old.processors lines.old locks.old (M.Memory.model memory.old) case.now supply).answer }
-        ensures processors { self.new.processors ≡ (swapping self.old.geometry.measures self.old.processors lines.old locks.old (M.Memory.model memory.old) case.now supply).processors }
-        ensures lines { lines.new ≡ (swapping self.old.geometry.measures self.old.processors lines.old locks.old (M.Memory.model memory.old) case.now supply).lines }
-        ensures locks { locks.new ≡ (swapping self.old.geometry.measures self.old.processors lines.old locks.old (M.Memory.model memory.old) case.now supply).locks }
-        ensures memory { M.Memory.model memory.new ≡ (swapping self.old.geometry.measures self.old.processors lines.old locks.old (M.Memory.model memory.old) case.now supply).memory }
-        ensures geometry { self.new.geometry ≡ self.old.geometry }
-        ensures kept { M.Memory.standing memory.new ≡ M.Memory.standing memory.old }
-        ensures waiting { WaitsMore result self.old.processors self.new.processors }
-        ensures idle { FewerIdle self.old.geometry.measures.processors result self.old.processors self.new.processors }
-        ensures cost { IfOk result (λ a. cycles_in a ≤ 4000) }
+    // Refuses a line table of wrong length with 2.
+    pub fn check_lines(&self, lines: &[Line]) -> Result<(), Refusal>
+        ensures { result ≡ (if length lines.now == line_count self.now.geometry.measures then Ok tt else Err Refusal.TableLength) }
     {
-        let taken = self.taken(lines, case);
-        let swapped_out = swap_out(memory, victim(lines, taken))?;
-        Ok(Answer::Done(self.finish(lines, locks, case, supply, taken, swapped_out)))
-    }
-
-    // The block is read before the victim is written.
-    fn fetch_and_finish<M: Memory>(
-        &mut self,
-        lines: &mut [Line],
-        locks: &mut [LockEntry],
-        memory: &mut M,
-        case: &Case,
-    ) -> Result<Answer, Refusal>
-        requires rows { length lines.old ≡ line_count self.old.geometry.measures }
-        requires sound { Sound self.old.geometry.measures (length lines.old) (length locks.old) case.now }
-        ensures answer { result ≡ (supplying self.old.geometry.measures self.old.processors lines.old locks.old (M.Memory.model memory.old) case.now).answer }
-        ensures processors { self.new.processors ≡ (supplying self.old.geometry.measures self.old.processors lines.old locks.old (M.Memory.model memory.old) case.now).processors }
-        ensures lines { lines.new ≡ (supplying self.old.geometry.measures self.old.processors lines.old locks.old (M.Memory.model memory.old) case.now).lines }
-        ensures locks { locks.new ≡ (supplying self.old.geometry.measures self.old.processors lines.old locks.old (M.Memory.model memory.old) case.now).locks }
-        ensures memory { M.Memory.model memory.new ≡ (supplying self.old.geometry.measures self.old.processors lines.old locks.old (M.Memory.model memory.old) case.now).memory }
-        ensures geometry { self.new.geometry ≡ self.old.geometry }
-        ensures kept { M.Memory.standing memory.new ≡ M.Memory.standing memory.old }
-        ensures waiting { WaitsMore result self.old.processors self.new.processors }
-        ensures idle { FewerIdle self.old.geometry.measures.processors result self.old.processors self.new.processors }
-        ensures cost { IfOk result (λ a. cycles_in a ≤ 4000) }
-    {
-        let supply = fetch(&self.geometry, lines, memory, case)?;
-        self.swap_and_finish(lines, locks, memory, case, supply)
-    }
-
-    fn proceed<M: Memory>(
-        &mut self,
-        lines: &mut [Line],
-        locks: &mut [LockEntry],
-        memory: &mut M,
-        case: &Case,
-    ) -> Result<Answer, Refusal>
-        requires rows { length lines.old ≡ line_count self.old.geometry.measures }
-        requires sound { Sound self.old.geometry.measures (length lines.old) (length locks.old) case.now }
-        requires ready { Ready self.old.processors case.now.processor }
-        ensures answer { result ≡ (proceeding self.old.geometry.measures self.old.processors lines.old locks.old (M.Memory.model memory.old) case.now).answer }
-        ensures processors { self.new.processors ≡ (proceeding self.old.geometry.measures self.old.processors lines.old locks.old (M.Memory.model memory.old) case.now).processors }
-        ensures lines { lines.new ≡ (proceeding self.old.geometry.measures self.old.processors lines.old locks.old (M.Memory.model memory.old) case.now).lines }
-        ensures locks { locks.new ≡ (proceeding self.old.geometry.measures self.old.processors lines.old locks.old (M.Memory.model memory.old) case.now).locks }
-        ensures memory { M.Memory.model memory.new ≡ (proceeding self.old.geometry.measures self.old.processors lines.old locks.old (M.Memory.model memory.old) case.now).memory }
-        ensures geometry { self.new.geometry ≡ self.old.geometry }
-        ensures kept { M.Memory.standing memory.new ≡ M.Memory.standing memory.old }
-        ensures waiting { WaitsMore result self.old.processors self.new.processors }
-        ensures idle { FewerIdle self.old.geometry.measures.processors result self.old.processors self.new.processors }
-        ensures cost { IfOk result (λ a. cycles_in a ≤ 4000) }
-    {
-        if let Some(holder) = case.lock_hit() {
-            return Ok(Answer::Wait(self.wait(locks, case, holder)));
+        if lines.len() != self.geometry.line_count() {
+            return Err(Refusal::TableLength);
         }
-        self.fetch_and_finish(lines, locks, memory, case)
+        Ok(())
     }
 
-    fn meet<M: Memory>(
-        &mut self,
-        lines: &mut [Line],
-        locks: &mut [LockEntry],
-        memory: &mut M,
-        request: Request,
-    ) -> Result<Answer, Refusal>
-        requires { length lines.old ≡ line_count self.old.geometry.measures }
-        ensures answer { result ≡ (meeting self.old.geometry.measures self.old.processors lines.old locks.old (M.Memory.model memory.old) request).answer }
-        ensures processors { self.new.processors ≡ (meeting self.old.geometry.measures self.old.processors lines.old locks.old (M.Memory.model memory.old) request).processors }
-        ensures lines { lines.new ≡ (meeting self.old.geometry.measures self.old.processors lines.old locks.old (M.Memory.model memory.old) request).lines }
-        ensures locks { locks.new ≡ (meeting self.old.geometry.measures self.old.processors lines.old locks.old (M.Memory.model memory.old) request).locks }
-        ensures memory { M.Memory.model memory.new ≡ (meeting self.old.geometry.measures self.old.processors lines.old locks.old (M.Memory.model memory.old) request).memory }
-        ensures geometry { self.new.geometry ≡ self.old.geometry }
-        ensures kept { M.Memory.standing memory.new ≡ M.Memory.standing memory.old }
-        ensures waiting { WaitsMore result self.old.processors self.new.processors }
-        ensures idle { FewerIdle self.old.geometry.measures.processors result self.old.processors self.new.processors }
-        ensures cost { IfOk result (λ a. cycles_in a ≤ 4000) }
+    // Refuses a lock table of wrong length with 2.
+    pub fn check_locks(&self, locks: &[LockEntry]) -> Result<(), Refusal>
+        ensures { result ≡ (if length locks.now == lock_count self.now.geometry.measures then Ok tt else Err Refusal.TableLength) }
     {
-        let case = self.case_of(lines, locks, memory.blocks(), request)?;
-        self.proceed(lines, locks, memory, &case)
+        if locks.len() != self.geometry.lock_count() {
+            return Err(Refusal::TableLength);
+        }
+        Ok(())
     }
 
-    fn tables_fit(&self, lines: &[Line], locks: &[LockEntry]) -> bool
-        ensures { result ≡ tables_fit self.now.geometry.measures (length lines.now) (length locks.now) }
-    {
-        lines.len() == self.geometry.line_count() && locks.len() == self.geometry.lock_count()
-    }
-
-    // Refuses a table of wrong length with 2.
     pub fn check_tables(&self, lines: &[Line], locks: &[LockEntry]) -> Result<(), Refusal>
         ensures { result ≡ (if tables_fit self.now.geometry.measures (length lines.now) (length locks.now) then Ok tt else Err Refusal.TableLength) }
     {
-        if self.tables_fit(lines, locks) {
-            Ok(())
-        } else {
-            Err(Refusal::TableLength)
-        }
+        self.check_lines(lines)?;
+        self.check_locks(locks)
     }
 
     // Issues a command for a processor.
@@ -156,9 +62,14 @@ impl Cluster {
         ensures idle { FewerIdle self.old.geometry.measures.processors result self.old.processors self.new.processors }
         ensures cost { IfOk result (λ a. cycles_in a ≤ 4000) }
     {
-        if !self.tables_fit(lines, locks) {
-            return Err(Refusal::TableLength);
+        self.check_tables(lines, locks)?;
+        let case = self.case_of(lines, locks, memory.blocks(), request)?;
+        if let Some(holder) = case.lock_hit() {
+            return Ok(Answer::Wait(self.wait(locks, &case, holder)));
         }
-        self.meet(lines, locks, memory, request)
+        let supply = self.fetch(lines, memory, &case)?;
+        let taken = self.taken(lines, &case);
+        let swapped_out = swap_out(memory, victim(lines, taken))?;
+        Ok(Answer::Done(self.finish(lines, locks, &case, supply, taken, swapped_out)))
     }
 }

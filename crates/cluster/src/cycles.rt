@@ -3,7 +3,6 @@ ghost use Rattle.std.specs.Prelude.{◌≡◌, ◌≤◌};
 ghost use Rattle.protocol.specs.Limits.{LowCosts};
 ghost use Rattle.cluster.specs.Doing.{supply_cost, invalidates, cycles_for};
 
-use memory::memory::Memory;
 use protocol::answer::Supplier;
 use protocol::command::BusCommand;
 use protocol::measures::Costs;
@@ -21,10 +20,7 @@ pub(crate) fn supply_cost(costs: &Costs, from: Option<Supplier>) -> u32
 pub(crate) fn is_invalidation(bus: Option<BusCommand>) -> bool
     ensures { result ≡ invalidates bus }
 {
-    match bus {
-        Some(BusCommand::I) => true,
-        _ => false,
-    }
+    bus == Some(BusCommand::I)
 }
 
 // What took place costs: swap-out, transfer or swap-in, invalidation, lock signal.

@@ -10,12 +10,10 @@ ghost use Rattle.cluster.specs.Waiting.{turn_raised};
 use crate::case::Case;
 use crate::cluster::Cluster;
 use crate::cycles::cycles;
-use crate::snooping::snoop_others;
 use crate::supply::Supply;
-use crate::ways::{Taken, take_way};
+use crate::ways::Taken;
 use protocol::acting::{word_answered, words_left};
 use protocol::answer::{Completion, Supplier};
-use protocol::geometry::Geometry;
 use protocol::line::Line;
 use protocol::lock::LockEntry;
 use protocol::state::State;
@@ -33,28 +31,13 @@ pub(crate) fn state_left(case: &Case, from: Option<Supplier>) -> State
 pub(crate) fn own_place(case: &Case, taken: Option<Taken>) -> Option<usize>
     ensures { result ≡ own_place case.now.place taken }
 {
-    match taken {
-        Some(way) => Some(way.place),
-        None => case.place,
-    }
+    taken.map(|way| way.place).or(case.place)
 }
 
 pub(crate) fn chosen_by_turn(taken: Option<Taken>) -> bool
     ensures { result ≡ by_turn taken }
 {
-    match taken {
-        Some(way) => way.by_turn,
-        None => false,
-    }
-}
-
-// The other caches see the bus command, if one is sent.
-pub(crate) fn see_bus(geometry: &Geometry, lines: &mut [Line], case: &Case)
-    ensures { lines.new ≡ bus_seen geometry.now.measures case.now.effect.bus case.now.processor case.now.block lines.old }
-{
-    if let Some(bus) = case.effect.bus {
-        snoop_others(geometry, lines, case.processor, case.block, bus);
-    }
+    taken.is_some_and(|way| way.by_turn)
 }
 
 // The own copy after the command.
@@ -81,6 +64,15 @@ pub(crate) fn place_copy(lines: &mut [Line], place: Option<usize>, copy: Line)
 }
 
 impl Cluster {
+    // The other caches see the bus command, if one is sent.
+    fn see_bus(&self, lines: &mut [Line], case: &Case)
+        ensures { lines.new ≡ bus_seen self.now.geometry.measures case.now.effect.bus case.now.processor case.now.block lines.old }
+    {
+        if let Some(bus) = case.effect.bus {
+            self.snoop_others(lines, case.processor, case.block, bus);
+        }
+    }
+
     pub(crate) fn taken(&self, lines: &[Line], case: &Case) -> Option<Taken>
         requires rows { length lines.now ≡ line_count self.now.geometry.measures }
         requires known { case.now.processor < self.now.geometry.measures.processors }
@@ -91,7 +83,7 @@ impl Cluster {
             return None;
         }
         let turn = self.processors[case.processor as usize].turn;
-        Some(take_way(&self.geometry, lines, case.processor, case.block, turn))
+        Some(self.take_way(lines, case.processor, case.block, turn))
     }
 
     pub(crate) fn raise_turn(&mut self, processor: u8)
@@ -135,7 +127,7 @@ impl Cluster {
         ensures bound { result.cycles ≤ 4000 }
     {
         let words = supply.words;
-        see_bus(&self.geometry, lines, case);
+        self.see_bus(lines, case);
         place_copy(lines, own_place(case, taken), copy_left(case, supply));
         self.pass_turn(case, taken);
         let ul = self.settle_locks(locks, case);

@@ -9,14 +9,6 @@ use protocol::line::Line;
 use protocol::lock::LockEntry;
 use protocol::refusal::Refusal;
 
-fn fill<T: Copy>(table: &mut [T], value: T)
-    ensures { table.new ≡ replicate (length table.old) value }
-{
-    for entry in table.iter_mut() {
-        *entry = value;
-    }
-}
-
 impl Cluster {
     // A cluster whose processors have done nothing yet.
     pub fn at_rest(geometry: Geometry) -> Cluster
@@ -58,12 +50,11 @@ impl Cluster {
         ensures lines { lines.new ≡ new_lines geometry lines.old locks.old }
         ensures locks { locks.new ≡ new_locks geometry lines.old locks.old }
     {
-        if lines.len() != geometry.line_count() || locks.len() != geometry.lock_count() {
-            return Err(Refusal::TableLength);
-        }
-        *self = Cluster::at_rest(geometry);
-        fill(lines, Line::BLANK);
-        fill(locks, LockEntry::BLANK);
+        let new = Cluster::at_rest(geometry);
+        new.check_tables(lines, locks)?;
+        *self = new;
+        lines.fill(Line::BLANK);
+        locks.fill(LockEntry::BLANK);
         Ok(())
     }
 }

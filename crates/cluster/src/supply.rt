@@ -1,15 +1,16 @@
 // The block's words before the command, and the swap-out of the victim.
-ghost use Rattle.std.specs.Prelude.{◌≡◌, ◌<◌, length, IfSome, Ok, Err};
+ghost use Rattle.std.specs.Prelude.{◌≡◌, ◌<◌, length, IfSome, OnErr, Ok, Err};
 ghost use Rattle.cluster.specs.Doing.{supplied_by, supplied, victim_of, swapped_out, memory_after};
 
-use crate::caches::{line_at, line_of};
+use crate::caches::line_at;
 use crate::case::{Case, asks_for_block};
+use crate::cluster::Cluster;
 use crate::ways::Taken;
+use memory::blocks::{read_block, write_block};
 use memory::memory::Memory;
 use protocol::answer::Supplier;
-use protocol::geometry::Geometry;
 use protocol::line::Line;
-use protocol::refusal::{Direction, Refusal};
+use protocol::refusal::Refusal;
 
 // The block's words before the command, and who supplied them.
 #[derive(Clone, Copy)]
@@ -18,48 +19,47 @@ pub struct Supply {
     pub from: Option<Supplier>,
 }
 
-// The block as another cache or memory has it.
-pub(crate) fn supply_from<M: Memory>(
-    geometry: &Geometry,
-    lines: &[Line],
-    memory: &M,
-    block: u32,
-    copy: Option<u8>,
-) -> Result<Supply, Refusal>
-    ensures { result ≡ supplied_by geometry.now.measures lines.now (M.Memory.model memory.now) block copy }
-{
-    match copy {
-        Some(q) => {
-            let words = line_at(lines, line_of(geometry, lines, q, block)).words;
-            Ok(Supply {
-                words,
-                from: Some(Supplier::Cache(q)),
-            })
-        }
-        None => match memory.read(block) {
-            Ok(words) => Ok(Supply {
-                words,
+impl Cluster {
+    // The block as another cache or memory has it.
+    fn supply_from<M: Memory>(
+        &self,
+        lines: &[Line],
+        memory: &M,
+        block: u32,
+        copy: Option<u8>,
+    ) -> Result<Supply, Refusal>
+        ensures { result ≡ supplied_by self.now.geometry.measures lines.now (M.Memory.model memory.now) block copy }
+    {
+        match copy {
+            Some(q) => {
+                let words = line_at(lines, self.line_of(lines, q, block)).words;
+                Ok(Supply {
+                    words,
+                    from: Some(Supplier::Cache(q)),
+                })
+            }
+            None => Ok(Supply {
+                words: read_block(memory, block)?,
                 from: Some(Supplier::Memory),
             }),
-            Err(_) => Err(Refusal::Memory(block, Direction::Read)),
-        },
+        }
     }
-}
 
-pub(crate) fn fetch<M: Memory>(
-    geometry: &Geometry,
-    lines: &[Line],
-    memory: &M,
-    case: &Case,
-) -> Result<Supply, Refusal>
-    requires { IfSome case.now.place (λ i. i < length lines.now) }
-    ensures { result ≡ supplied geometry.now.measures lines.now (M.Memory.model memory.now) case.now }
-{
-    if asks_for_block(case.effect.bus) {
-        return supply_from(geometry, lines, memory, case.block, case.copy);
+    pub(crate) fn fetch<M: Memory>(
+        &self,
+        lines: &[Line],
+        memory: &M,
+        case: &Case,
+    ) -> Result<Supply, Refusal>
+        requires { IfSome case.now.place (λ i. i < length lines.now) }
+        ensures { result ≡ supplied self.now.geometry.measures lines.now (M.Memory.model memory.now) case.now }
+    {
+        if asks_for_block(case.effect.bus) {
+            return self.supply_from(lines, memory, case.block, case.copy);
+        }
+        let words = line_at(lines, case.place).words;
+        Ok(Supply { words, from: None })
     }
-    let words = line_at(lines, case.place).words;
-    Ok(Supply { words, from: None })
 }
 
 // The line in the way taken, if memory has to be given its block.
@@ -67,15 +67,8 @@ pub(crate) fn victim(lines: &[Line], taken: Option<Taken>) -> Option<Line>
     requires { IfSome taken (λ t. t.place < length lines.now) }
     ensures { result ≡ victim_of lines.now taken }
 {
-    let Some(way) = taken else {
-        return None;
-    };
-    let old = lines[way.place];
-    if old.state.is_modified() {
-        Some(old)
-    } else {
-        None
-    }
+    let old = lines[taken?.place];
+    old.state.is_modified().then_some(old)
 }
 
 // Writes the victim's block to memory.
@@ -86,12 +79,11 @@ pub(crate) fn swap_out<M: Memory>(
     ensures answer { result ≡ swapped_out (M.Memory.model memory.old) victim }
     ensures after { M.Memory.model memory.new ≡ memory_after (M.Memory.model memory.old) victim }
     ensures kept { M.Memory.standing memory.new ≡ M.Memory.standing memory.old }
+    ensures denied { OnErr result (M.Memory.model memory.new ≡ M.Memory.model memory.old) }
 {
     let Some(line) = victim else {
         return Ok(None);
     };
-    match memory.write(line.block, line.words) {
-        Ok(()) => Ok(Some(line.block)),
-        Err(_) => Err(Refusal::Memory(line.block, Direction::Write)),
-    }
+    write_block(memory, line.block, line.words)?;
+    Ok(Some(line.block))
 }

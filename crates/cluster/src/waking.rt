@@ -1,5 +1,5 @@
 // Waiting, waking and the lock entries of a done command.
-ghost use Rattle.std.specs.Prelude.{◌≡◌, ◌<◌, length, IfSome, slice_index_or, slice_set};
+ghost use Rattle.std.specs.Prelude.{◌≡◌, ◌/◌, ◌<◌, length, IfSome, slice_index_or, slice_set};
 ghost use Rattle.cluster.specs.Locks.{waited_for};
 ghost use Rattle.cluster.specs.Making.{resting};
 ghost use Rattle.cluster.specs.Settling.{ul_sent, locks_settled, woken_by};
@@ -7,7 +7,7 @@ ghost use Rattle.cluster.specs.Waiting.{Ready, not_waiting, idle, woken, all_wok
 
 use crate::case::{Case, takes_lock};
 use crate::cluster::{Cluster, Processor};
-use crate::locks::{mark_waited, release};
+use crate::locks::release;
 use protocol::answer::LockHit;
 use protocol::lock::{LockEntry, LockState};
 
@@ -15,12 +15,13 @@ use protocol::lock::{LockEntry, LockState};
 pub(crate) fn awake(processor: Processor, block: u32) -> Processor
     ensures { result ≡ woken block processor }
 {
-    match processor.waits_for {
-        Some(awaited) if awaited == block => Processor {
-            turn: processor.turn,
+    if processor.waits_for == Some(block) {
+        Processor {
             waits_for: None,
-        },
-        _ => processor,
+            ..processor
+        }
+    } else {
+        processor
     }
 }
 
@@ -28,7 +29,7 @@ impl Cluster {
     // The processor waits for the block from now on, and the holders know.
     pub(crate) fn wait(&mut self, locks: &mut [LockEntry], case: &Case, holder: u8) -> LockHit
         requires known { case.now.processor < self.old.geometry.measures.processors }
-        requires block { case.now.block < 1073741824 }
+        requires block { case.now.block ≡ case.now.address / 4 }
         requires ready { Ready self.old.processors case.now.processor }
         ensures answer { result ≡ record { holder = holder; found = case.now.found; cycles = self.old.geometry.measures.costs.lock_signal } }
         ensures locks { locks.new ≡ waited_for self.old.geometry.measures locks.old case.now.processor case.now.block }
@@ -37,7 +38,7 @@ impl Cluster {
         ensures fewer { not_waiting self.new.processors < not_waiting self.old.processors }
         ensures fewer_idle { idle self.old.geometry.measures.processors self.new.processors < idle self.old.geometry.measures.processors self.old.processors }
     {
-        mark_waited(&self.geometry, locks, case.processor, case.block);
+        self.mark_waited(locks, case.processor, case.address);
         self.processors[case.processor as usize].waits_for = Some(case.block);
         LockHit {
             holder,
@@ -50,9 +51,7 @@ impl Cluster {
         ensures processors { self.new.processors ≡ all_woken block self.old.processors }
         ensures geometry { self.new.geometry ≡ self.old.geometry }
     {
-        for p in 0..8 {
-            self.processors[p] = awake(self.processors[p], block);
-        }
+        self.processors = self.processors.map(|p| awake(p, block));
     }
 
     // LR takes its entry; U and UW empty theirs and wake who waits. Whether UL is sent.

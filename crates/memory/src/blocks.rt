@@ -1,5 +1,5 @@
 // One block read or written, with the refusal where memory denies it.
-ghost use Rattle.std.specs.Prelude.{◌≡◌};
+ghost use Rattle.std.specs.Prelude.{◌≡◌, OnErr};
 ghost use Rattle.memory.specs.Blocks.{block_reading, block_granted};
 ghost use Rattle.memory.specs.Meaning.{written};
 
@@ -19,6 +19,7 @@ pub fn write_block<M: Memory>(memory: &mut M, block: u32, words: [u32; 4]) -> Re
     ensures answer { result ≡ block_granted (M.Memory.model memory.old) block }
     ensures after { M.Memory.model memory.new ≡ written (M.Memory.model memory.old) block words }
     ensures kept { M.Memory.standing memory.new ≡ M.Memory.standing memory.old }
+    ensures denied { OnErr result (M.Memory.model memory.new ≡ M.Memory.model memory.old) }
 {
     memory
         .write(block, words)

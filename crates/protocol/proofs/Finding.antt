@@ -1,8 +1,9 @@
 -- The steps of a search over a window.
-use Rattle.std.proofs.Common.{◌≡◌, ℕ, zero, suc, ◌+◌, ◌-◌, ◌<◌, ◌≤◌, Bool, true, false, cond, not, ltb, List, [], ◌∷◌, length, get_or, take, drop, Some, None, Option, refl, ap, ◌∙◌, inl, inr, arith}
+use Rattle.std.proofs.Common.{◌≡◌, ℕ, zero, suc, ◌+◌, ◌-◌, ◌<◌, ◌≤◌, Bool, true, false, cond, not, ltb, List, [], ◌∷◌, length, get_or, take, drop, Some, None, Option, sym, refl, ap, ◌∙◌, inl, inr, arith}
 use Rattle.std.specs.List.{position, position_or_len}
 use Rattle.std.proofs.lemmas.List.{drop_more}
 use Rattle.std.proofs.lemmas.Bool.Decides.{leb_tells, nat_tests}
+use Rattle.std.specs.Option.{MatchOption}
 use Rattle.protocol.specs.Finding.{first_in, lowest_from}
 
 -- the place that is found is counted from where the list starts
@@ -98,3 +99,11 @@ module _ (test : ℕ → Bool) where
   lowest_none zero from none = refl
   lowest_none (suc count) from none =
       rw (none from (omega arith) (omega arith)) (lowest_none count (from + 1) (λ j a b. none j (omega (arith, a)) (omega (arith, b))))
+
+  -- what a `find` over the numbers below `count` tells of its answer
+  pub lowest_of : (count : ℕ) (r : Option ℕ)
+      → MatchOption r ((k : ℕ) → 0 ≤ k → k < count → test k ≡ false)
+      (λ i. (0 ≤ i) × (i < count) × (test i ≡ true) × ((k : ℕ) → 0 ≤ k → k < i → test k ≡ false))
+      → r ≡ lowest_from test 0 count
+  lowest_of count None h = sym (lowest_none count 0 (λ k low high. h k low (omega (arith, high))))
+  lowest_of count (Some i) h = sym (lowest_is count 0 i h.0 (omega (arith, h.1)) h.2 h.3)

@@ -4,9 +4,10 @@ ghost use Rattle.upkeep.specs.Counting.{census_of, modified_in};
 ghost use Rattle.upkeep.specs.Draining.{written_back, memory_back, drain_from, drain_rule};
 
 use cluster::cluster::Cluster;
+use memory::blocks::write_block;
 use memory::memory::Memory;
 use protocol::line::Line;
-use protocol::refusal::{Direction, Refusal};
+use protocol::refusal::Refusal;
 
 // The blocks written, and their cycles.
 #[derive(Clone, Copy)]
@@ -25,10 +26,8 @@ fn write_back<M: Memory>(memory: &mut M, line: Line) -> Result<u32, Refusal>
     if !line.state.is_modified() {
         return Ok(0);
     }
-    match memory.write(line.block, line.words) {
-        Ok(()) => Ok(1),
-        Err(_) => Err(Refusal::Memory(line.block, Direction::Write)),
-    }
+    write_block(memory, line.block, line.words)?;
+    Ok(1)
 }
 
 // Goes through the lines in order. A refused write stops it there and keeps what it did.
@@ -41,12 +40,9 @@ fn drain_lines<M: Memory>(lines: &mut [Line], memory: &mut M) -> Result<u32, Ref
     ensures few { IfOk result (λ n. n ≤ 8192) }
 {
     let mut blocks = 0;
-    for i in 0..lines.len() {
-        match write_back(memory, lines[i]) {
-            Ok(n) => blocks += n,
-            Err(refusal) => return Err(refusal),
-        }
-        lines[i] = Line::BLANK;
+    for line in lines.iter_mut() {
+        blocks += write_back(memory, *line)?;
+        *line = Line::BLANK;
     }
     Ok(blocks)
 }
@@ -64,15 +60,10 @@ pub fn drain<M: Memory>(
     ensures kept { M.Memory.standing memory.new ≡ M.Memory.standing memory.old }
     ensures counted { IfOk result (λ d. d.blocks ≡ modified_in (census_of cluster.now.geometry.measures lines.old)) }
 {
-    let geometry = cluster.geometry();
-    if lines.len() != geometry.line_count() {
-        return Err(Refusal::TableLength);
-    }
-    match drain_lines(lines, memory) {
-        Ok(blocks) => Ok(Drained {
-            blocks,
-            cycles: blocks * geometry.costs().swap_out,
-        }),
-        Err(refusal) => Err(refusal),
-    }
+    cluster.check_lines(lines)?;
+    let blocks = drain_lines(lines, memory)?;
+    Ok(Drained {
+        blocks,
+        cycles: blocks * cluster.geometry().costs().swap_out,
+    })
 }

@@ -1,12 +1,12 @@
-use Rattle.std.proofs.Common.{◌≡◌, ◌+◌, ◌-◌, take, drop, None}
+use Rattle.std.proofs.Common.{◌≡◌, ◌-◌, take, drop, None}
 use Rattle.protocol.specs.Finding.{first_in, lowest_from}
 use Rattle.cluster.specs.Copies.{holds_block, line_of, other_copy, supplier_of}
-use Rattle.cluster.proofs.caches.supplier.Given as goal
+use Rattle.cluster.proofs.cluster.Cluster.supplier.Given as goal
 
 -- what is left of the processors gives the answer
 abbrev pub invariant-caches : goal.invariant-caches
 invariant-caches l =
-    let m = l.geometry.measures in
+    let m = l.self.geometry.measures in
     (l.holder ≡ None)
     × (lowest_from (other_copy m l.lines l.asking l.block) l.p (m.processors - l.p)
     ≡ supplier_of m l.lines l.asking l.block)
@@ -15,5 +15,5 @@ invariant-caches l =
 abbrev pub invariant-loop-i : goal.invariant-loop-i
 invariant-loop-i l =
     (l.holder ≡ None)
-    × (first_in (holds_block l.block) l.i (take (l.start + l.ways - l.i) (drop l.i l.lines))
-    ≡ line_of l.geometry.measures l.lines l.p l.block)
+    × (first_in (holds_block l.block) l.i (take (l.i-end - l.i) (drop l.i l.lines))
+    ≡ line_of l.self.geometry.measures l.lines l.p l.block)

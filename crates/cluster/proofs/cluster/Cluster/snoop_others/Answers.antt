@@ -1,10 +1,10 @@
 use Rattle.std.proofs.Common.{◌≡◌, suc, ◌+◌, ◌-◌, sym, ap, ◌∙◌, arith}
 use Rattle.cluster.specs.Snooping.{snooped_from}
-use Rattle.cluster.proofs.snooping.snoop_others.Goals as goal
+use Rattle.cluster.proofs.cluster.Cluster.snoop_others.Goals as goal
 
 pub loop-p-preserved : goal.loop-p-preserved
 loop-p-preserved c =
-    let m = c.args.geometry.now.measures in
+    let m = c.args.self.now.geometry.measures in
     let p = c.loop-p.p in
     let one : m.processors - p ≡ suc (m.processors - (p + 1)) = omega arith in
     ap (snooped_from m c.args.bus c.args.asking c.args.block (p + 1) (m.processors - (p + 1))) c.snoop_other.ensures
