@@ -1,5 +1,5 @@
 -- What a dead list is filled with, and what is found in it.
-use Rattle.std.proofs.Common.{◌≡◌, ℕ, zero, suc, ◌+◌, ◌-◌, ◌<◌, ◌≤◌, eqb, List, [], ◌∷◌, ◌++◌, map, length, get_or, replicate, Some, None, Option, refl, ap, ◌∙◌, inl, inr, sym, arith}
+use Rattle.std.proofs.Common.{◌≡◌, ℕ, zero, suc, ◌+◌, ◌<◌, ◌≤◌, eqb, List, [], ◌∷◌, length, get_or, Some, None, Option, refl, ap, ◌∙◌, inl, inr, sym, arith}
 use denote.Param.Members.{Mut}
 use Rattle.std.specs.Array.{IsFromFnResultFrom}
 use Rattle.std.specs.Fn.{Called}
@@ -28,13 +28,8 @@ module _ {F B : Type 0} (g : Mut F (ℕ × Unit {0}) B) (h : ℕ → B) (J : F �
         | inr e ↦ from_fn_at q ys (i + 1) n k d (step i f q y j call).0 rest (omega arith) (omega arith)
       ]
 
-filled_at : (numbers : List ℕ) (n i : ℕ) → i < length numbers + n → get_or (map Some numbers ++ replicate n None) i None ≡ slice_get numbers i
-filled_at numbers n i h = grind (arith, common_steps, gets, places)
-
 pub filled_places : (numbers : List ℕ) (blocks : List (Option ℕ)) → length numbers ≤ 16 → length blocks ≡ 16
     → ((i : ℕ) → i < 16 → get_or blocks i None ≡ slice_get numbers i) → blocks ≡ filled numbers
 filled_places numbers blocks few long at =
     same_lists blocks (filled numbers) (simp (length-append, length-map, length-replicate) (omega arith))
-    (λ k d h.
-    let small : k < length (filled numbers) = simp (length-append, length-map, length-replicate) (omega arith) in
-    get_or_default blocks k d None h ∙ at k (omega arith) ∙ sym (filled_at numbers (16 - length numbers) k (omega arith)) ∙ get_or_default (filled numbers) k None d small)
+    (λ k d h. grind (arith, common_steps, gets, places, get_or_default, at k))

@@ -11,7 +11,7 @@ use Rattle.memory.specs.Words.{blocks_in, block_in, table_of}
 inside : (n b : ℕ) → b < blocks_in n → b * 4 + 4 ≤ n
 inside n b h = grind (arith, nat_tests)
 
-pub granting : (ws : List ℕ) (b : ℕ) → b < blocks_in (length ws) → grants (table_of ws) b ≡ true
+granting : (ws : List ℕ) (b : ℕ) → b < blocks_in (length ws) → grants (table_of ws) b ≡ true
 granting ws b h = grind (arith, nat_tests)
 
 four : (vs ws : List ℕ) (a : ℕ) → length vs ≡ 4 → ((k : ℕ) → k < 4 → get_or vs k 0 ≡ get_or ws (a + k) 0)

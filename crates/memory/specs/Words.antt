@@ -1,6 +1,7 @@
 -- The memory over a table of words.
-use Rattle.std.specs.Prelude.{◌≡◌, ℕ, ◌+◌, ◌*◌, ◌/◌, ◌%◌, ◌≤◌, Bool, true, false, cond, ◌&&◌, List, [], ◌∷◌, length, ◌==◌, nat_le, slice_index, refl}
+use Rattle.std.specs.Prelude.{ℕ, ◌+◌, ◌*◌, ◌/◌, ◌%◌, ◌≤◌, Bool, true, cond, ◌&&◌, List, [], ◌∷◌, length, ◌==◌, nat_le, slice_index, refl}
 use Rattle.std.proofs.Common.{arith, leb-true}
+use Rattle.std.proofs.lemmas.Bool.{and_parts, cond_both}
 use Rattle.memory.specs.Meaning.{Mem, Lawful}
 
 abbrev pub fit : ℕ → Bool
@@ -17,17 +18,13 @@ block_in ws block =
 abbrev pub table_of : List ℕ → Mem
 table_of ws = record { count = blocks_in (length ws); live = λ block. true; words = block_in ws }
 
-at_most : (fits small : Bool) (n most : ℕ) → (small ≡ true → n ≤ most) → cond (fits && small) n 0 ≤ most
-at_most true true n most h = h refl
-at_most true false n most h = omega arith
-at_most false small n most h = omega arith
-
 pub lawful_table : (ws : List ℕ) → Lawful (table_of ws)
 lawful_table ws =
     let n = length ws in
     record {
       bounded =
-          at_most (n % 4 == 0) (nat_le n 4194304) (n / 4) 1048576
-          (λ h. let few : n ≤ 4194304 = leb-true n 4194304 h in omega arith);
+          cond_both (fit n) (n / 4) 0 (λ count. count ≤ 1048576)
+          (λ h. let few : n ≤ 4194304 = leb-true n 4194304 (and_parts (n % 4 == 0) (nat_le n 4194304) h).1 in omega arith)
+          (λ h. omega arith);
       four = λ block. refl;
     }

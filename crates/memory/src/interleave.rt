@@ -23,7 +23,7 @@ impl<P: Memory, Q: Memory> Interleave<P, Q> {
     }
 }
 
-// `read` and `write` choose the half alike: one helper for both would have to lend it as & and as &mut.
+// `read` and `write` each choose the half: a helper would have to lend either of two types, once as & and once as &mut.
 impl<P: Memory, Q: Memory> Memory for Interleave<P, Q> {
     ghost model = { λ s. interleaved (P.Memory.model s.first) (Q.Memory.model s.second) };
 
