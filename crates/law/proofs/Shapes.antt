@@ -8,8 +8,6 @@ use Rattle.protocol.specs.declared.measures.Measures.{Measures}
 use Rattle.protocol.specs.declared.refusal.Refusal.{Refusal}
 use Rattle.protocol.specs.declared.refusal.Refusal.TheVariants.{TableLength}
 use Rattle.protocol.specs.declared.state.State.{State}
-use Rattle.protocol.specs.declared.table.Cell.{Cell}
-use Rattle.protocol.specs.declared.table.Cell.TheVariants.{MachineCheck, Legal}
 use Rattle.protocol.specs.declared.table.Effect.{Effect}
 use Rattle.protocol.specs.Acting.{acts_as}
 use Rattle.protocol.specs.Entries.{valid}
@@ -76,12 +74,12 @@ module _ (m : Measures) (ps : List Processor) (lines : List Line) (locks : List 
     pub held : (releases_lock q.command && not (is_some (held_entry m locks q.processor q.address))) ≡ false
     pub alone : (is_direct_write action_of && not (valid found) && (is_some copy || is_some holder)) ≡ false
     pub effect : Effect
-    pub cell : cell_of action_of found ≡ Legal effect
+    pub cell : cell_of action_of found ≡ Some effect
     pub is : c ≡ met effect
 
-  by_cell : (c : Case) (cell : Cell) → cell_of action_of found ≡ cell → unless_checked found cell met ≡ Ok c → (e : Effect) × (cell_of action_of found ≡ Legal e) × (c ≡ met e)
-  by_cell c MachineCheck same h = absurd (not_ok h)
-  by_cell c (Legal e) same h = (e, same, ap (λ r. case_or r) (sym h))
+  by_cell : (c : Case) (cell : Option Effect) → cell_of action_of found ≡ cell → unless_checked found cell met ≡ Ok c → (e : Effect) × (cell_of action_of found ≡ Some e) × (c ≡ met e)
+  by_cell c None same h = absurd (not_ok h)
+  by_cell c (Some e) same h = (e, same, ap (λ r. case_or r) (sym h))
     where
       case_or : Result Case Refusal → Case
       case_or (Ok x) = x

@@ -1,7 +1,8 @@
 -- Counting lines.
-use Rattle.std.proofs.Common.{◌≡◌, ℕ, zero, suc, ◌+◌, ◌-◌, ◌*◌, ◌%◌, ◌<◌, ◌≤◌, Bool, true, false, cond, eqb, ltb, List, [], ◌∷◌, ◌++◌, length, get_or, take, drop, replicate, sym, refl, ap, ◌∙◌, add-zero, mul-le-mul_right, mod-eq_of_lt, mul-le-mul, zero-add, zero-mul, arith, take_all, take-add}
+use Rattle.std.proofs.Common.{◌≡◌, ℕ, zero, suc, ◌+◌, ◌-◌, ◌*◌, ◌%◌, ◌≤◌, Bool, true, false, cond, eqb, ltb, List, [], ◌∷◌, ◌++◌, length, get_or, take, drop, replicate, sym, refl, ap, ◌∙◌, add-zero, mul-le-mul_right, mod-eq_of_lt, mul-le-mul, zero-add, zero-mul, arith, take_all, take-add}
 use lib.Count.{ones, ones_in}
-use Rattle.std.proofs.lemmas.List.{drop_more, drop_all, drop-drop}
+use Rattle.std.proofs.lemmas.List.{drop-drop}
+use Rattle.std.proofs.lemmas.List.Sums.{sum_by-cons}
 use Rattle.std.proofs.lemmas.Bool.Decides.{nat_tests}
 use Rattle.protocol.specs.declared.geometry.Geometry.{Geometry}
 use Rattle.protocol.specs.declared.line.Line.{Line}
@@ -9,19 +10,9 @@ use Rattle.protocol.specs.declared.measures.Measures.{Measures}
 use Rattle.protocol.specs.declared.state.State.{State}
 use Rattle.protocol.specs.declared.state.State.TheVariants.{I, S, SM, EC, EM}
 use Rattle.protocol.specs.Entries.{modified}
-use Rattle.protocol.specs.Lines.{no_line}
 use Rattle.protocol.specs.Places.{line_count}
-use Rattle.upkeep.specs.Counting.{place_of, stands, count_of, row_of, first_line, cache_of, row_at, rows_from, census_of, modified_in}
-
-pub count_more : (test : Line → Bool) (lines : List Line) (i n : ℕ) (b : Bool) → i < length lines → test (get_or lines i no_line) ≡ b
-    → n + count_of test (drop i lines) ≡ n + cond b 1 0 + count_of test (drop (i + 1) lines)
-count_more test lines i n b h e =
-    let rest = count_of test (drop (i + 1) lines) in
-    let one : ℕ = cond b 1 0 in
-    ap (λ ls. n + count_of test ls) (drop_more lines i no_line h) ∙ ap (λ x. n + (cond x 1 0 + rest)) e ∙ omega arith
-
-pub count_ends : (test : Line → Bool) (lines : List Line) (i n : ℕ) → length lines ≤ i → n ≡ n + count_of test (drop i lines)
-count_ends test lines i n h = let none : n ≡ n + 0 = omega arith in none ∙ ap (λ ls. n + count_of test ls) (sym (drop_all i lines h))
+use Rattle.std.specs.Prelude.{count_by}
+use Rattle.upkeep.specs.Counting.{place_of, stands, count_in, row_of, first_line, cache_of, row_at, rows_from, census_of, modified_in}
 
 -- a power of two is not 0
 some_columns : (n : ℕ) → ones n ≡ 1 → 1 ≤ n
@@ -50,12 +41,13 @@ low_cycles blocks cost few low = mul-le-mul few low
 abbrev pub is_modified : Line → Bool
 is_modified line = modified line.state
 
-count_both : (xs ys : List Line) (test : Line → Bool) → count_of test (xs ++ ys) ≡ count_of test xs + count_of test ys
-count_both [] ys test = let none : count_of test ys ≡ 0 + count_of test ys = omega arith in none
+pub count_step : {X : Type 0} (test : X → Bool) (x : X) (xs : List X) → count_by test (x ∷ xs) ≡ cond (test x) 1 0 + count_by test xs
+count_step test x xs = sum_by-cons (λ y. cond (test y) 1 0) x xs
+
+count_both : (xs ys : List Line) (test : Line → Bool) → count_by test (xs ++ ys) ≡ count_by test xs + count_by test ys
+count_both [] ys test = let none : count_by test ys ≡ 0 + count_by test ys = omega arith in none
 count_both (x ∷ xs) ys test =
-    let one : ℕ = cond (test x) 1 0 in
-    let rest = count_both xs ys test in
-    omega (arith, rest)
+    omega (arith, count_both xs ys test, count_step test x xs, count_step test x (xs ++ ys))
 
 one_state : (s : State) → cond (eqb (place_of s) 0) 1 0 + cond (eqb (place_of s) 2) 1 0 ≡ cond {A = ℕ} (modified s) 1 0
 one_state EM = refl
@@ -64,18 +56,13 @@ one_state SM = refl
 one_state S = refl
 one_state I = refl
 
-two_states : (lines : List Line) → count_of (stands 0) lines + count_of (stands 2) lines ≡ count_of is_modified lines
+two_states : (lines : List Line) → count_by (stands EM) lines + count_by (stands SM) lines ≡ count_by is_modified lines
 two_states [] = refl
 two_states (line ∷ lines) =
-    let rest = two_states lines in
-    let one = one_state line.state in
-    let a : ℕ = cond (eqb (place_of line.state) 0) 1 0 in
-    let b : ℕ = cond (eqb (place_of line.state) 2) 1 0 in
-    let c : ℕ = cond (modified line.state) 1 0 in
-    omega (arith, rest, one)
+    omega (arith, two_states lines, one_state line.state, count_step (stands EM) line lines, count_step (stands SM) line lines, count_step is_modified line lines)
 
-in_row : (lines : List Line) → get_or (row_of lines) 0 0 + get_or (row_of lines) 2 0 ≡ count_of is_modified lines
-unfolding row_of
+in_row : (lines : List Line) → get_or (row_of lines) 0 0 + get_or (row_of lines) 2 0 ≡ count_by is_modified lines
+unfolding count_in
 in_row lines = two_states lines
 
 module _ (m : Measures) (lines : List Line) where
@@ -97,12 +84,12 @@ module _ (m : Measures) (lines : List Line) where
       omega (arith, step, rest, kept)
 
   -- the rows of processors that the geometry has count the lines up to the next processor's first
-  rows_count : (n p : ℕ) → p + n ≤ m.processors → modified_in (rows_from m lines p n) ≡ count_of is_modified (take (first (p + n) - first p) (drop (first p) lines))
+  rows_count : (n p : ℕ) → p + n ≤ m.processors → modified_in (rows_from m lines p n) ≡ count_by is_modified (take (first (p + n) - first p) (drop (first p) lines))
   unfolding row_at
   rows_count zero p h =
       let same : p + 0 ≡ p = omega arith in
       let none : first (p + 0) - first p ≡ 0 = ap (λ q. first q - first p) same ∙ omega arith in
-      sym (ap (λ k. count_of is_modified (take k (drop (first p) lines))) none)
+      sym (ap (λ k. count_by is_modified (take k (drop (first p) lines))) none)
   rows_count (suc n) p h =
       let here : ltb p m.processors ≡ true = grind (arith, nat_tests) in
       let rest = rows_count n (p + 1) (omega (arith, h)) in
@@ -116,9 +103,9 @@ module _ (m : Measures) (lines : List Line) where
       let behind : drop x (drop (first p) lines) ≡ drop (first (p + 1)) lines = drop-drop x (first p) lines ∙ ap (λ k. drop k lines) next in
       let whole : take (first (p + suc n) - first p) (drop (first p) lines) ≡ cache_of m lines p ++ take y (drop (first (p + 1)) lines)
       = ap (λ k. take k (drop (first p) lines)) (sym all) ∙ take-add x y (drop (first p) lines) ∙ ap (λ ls. cache_of m lines p ++ take y ls) behind in
-      let row : get_or (row_at m lines p) 0 0 + get_or (row_at m lines p) 2 0 ≡ count_of is_modified (cache_of m lines p)
+      let row : get_or (row_at m lines p) 0 0 + get_or (row_at m lines p) 2 0 ≡ count_by is_modified (cache_of m lines p)
       = ap (λ b. get_or (cond b (row_of (cache_of m lines p)) (replicate 5 0)) 0 0 + get_or (cond b (row_of (cache_of m lines p)) (replicate 5 0)) 2 0) here ∙ in_row (cache_of m lines p) in
-      (λ k. row k + rest k) ∙ sym (ap (count_of is_modified) whole ∙ count_both (cache_of m lines p) (take y (drop (first (p + 1)) lines)) is_modified)
+      (λ k. row k + rest k) ∙ sym (ap (count_by is_modified) whole ∙ count_both (cache_of m lines p) (take y (drop (first (p + 1)) lines)) is_modified)
 
   -- rows of other processors count nothing
   no_rows : (n p : ℕ) → m.processors ≤ p → modified_in (rows_from m lines p n) ≡ 0
@@ -144,7 +131,7 @@ module _ (m : Measures) (lines : List Line) where
       let row = get_or (row_at m lines p) 0 0 + get_or (row_at m lines p) 2 0 in
       ap (λ k. modified_in (rows_from m lines p k)) more ∙ omega (arith, rest, moved)
 
-  pub census_counts : m.processors ≤ 8 → 1 ≤ m.columns → length lines ≡ line_count m → modified_in (census_of m lines) ≡ count_of is_modified lines
+  pub census_counts : m.processors ≤ 8 → 1 ≤ m.columns → length lines ≡ line_count m → modified_in (census_of m lines) ≡ count_by is_modified lines
   census_counts few some fit =
       let n = m.processors in
       let split : 8 ≡ n + (8 - n) = omega (arith, few) in
@@ -155,6 +142,6 @@ module _ (m : Measures) (lines : List Line) where
       let all : first (0 + n) - first 0 ≡ length lines = (λ k. reach k - start k) ∙ omega arith in
       ap (λ k. modified_in (rows_from m lines 0 k)) split ∙ rows_more n (8 - n) 0
       ∙ (λ k. rows_count n 0 (omega arith) k + no_rows (8 - n) (0 + n) (omega arith) k)
-      ∙ add-zero (count_of is_modified (take (first (0 + n) - first 0) (drop (first 0) lines)))
-      ∙ (λ k. count_of is_modified (take (all k) (drop (start k) lines)))
-      ∙ ap (count_of is_modified) (take_all (length lines) lines (omega arith))
+      ∙ add-zero (count_by is_modified (take (first (0 + n) - first 0) (drop (first 0) lines)))
+      ∙ (λ k. count_by is_modified (take (all k) (drop (start k) lines)))
+      ∙ ap (count_by is_modified) (take_all (length lines) lines (omega arith))

@@ -9,8 +9,8 @@ use Rattle.protocol.specs.declared.refusal.Refusal.TheVariants.{Memory}
 use Rattle.protocol.specs.Entries.{modified}
 use Rattle.protocol.specs.Lines.{blank_line, no_line}
 use Rattle.memory.specs.Meaning.{Mem, grants}
-use Rattle.upkeep.specs.Counting.{count_of}
-use Rattle.upkeep.proofs.Counts.{is_modified}
+use Rattle.upkeep.proofs.Counts.{is_modified, count_step}
+use Rattle.std.specs.Prelude.{count_by}
 use Rattle.upkeep.specs.Draining.{Drain, behind, written_back, memory_back, unless_stopped, drain_from}
 
 abbrev pub onto : List Line → Drain → Drain
@@ -72,18 +72,17 @@ back_one mem line k e = by_state (modified line.state) (grants mem line.block) e
     by_state true false h = absurd (not_err (sym h))
 
 module _ (blocks n : ℕ) (line : Line) (lines : List Line) (mem : Mem)
-    (rest : (b : ℕ) → Ok n ≡ (drain_from b lines (memory_back mem line)).answer → n ≡ b + count_of is_modified lines) where
+    (rest : (b : ℕ) → Ok n ≡ (drain_from b lines (memory_back mem line)).answer → n ≡ b + count_by is_modified lines) where
   by_answer : (r : Result ℕ Refusal) → written_back mem line ≡ r
       → Ok n ≡ (unless_stopped r (record { answer = Ok blocks; lines = line ∷ lines; memory = mem }) (λ k. behind blank_line (drain_from (blocks + k) lines (memory_back mem line)))).answer
-      → n ≡ blocks + count_of is_modified (line ∷ lines)
+      → n ≡ blocks + count_by is_modified (line ∷ lines)
   by_answer (Err e) back h = absurd (not_err h)
   by_answer (Ok k) back h =
       let one = back_one mem line k back in
       let all = rest (blocks + k) h in
-      let count : ℕ = cond (is_modified line) 1 0 in
-      omega (arith, one, all)
+      omega (arith, one, all, count_step is_modified line lines)
 
-pub drain_count : (lines : List Line) (blocks n : ℕ) (mem : Mem) → Ok n ≡ (drain_from blocks lines mem).answer → n ≡ blocks + count_of is_modified lines
+pub drain_count : (lines : List Line) (blocks n : ℕ) (mem : Mem) → Ok n ≡ (drain_from blocks lines mem).answer → n ≡ blocks + count_by is_modified lines
 drain_count [] blocks n mem e = let same : n ≡ blocks = ap (λ r. result_unwrap_or r 0) e in omega (arith, same)
 drain_count (line ∷ lines) blocks n mem e =
     by_answer blocks n line lines mem (λ b. drain_count lines b n (memory_back mem line)) (written_back mem line) refl e

@@ -1,5 +1,5 @@
 -- The census: how many lines of each processor are in each state.
-use Rattle.std.specs.Prelude.{ℕ, zero, suc, ◌+◌, ◌-◌, Bool, cond, List, [], ◌∷◌, length, take, drop, replicate, ◌==◌, nat_lt, slice_index}
+use Rattle.std.specs.Prelude.{ℕ, zero, suc, ◌+◌, ◌-◌, Bool, cond, List, [], ◌∷◌, length, take, drop, count_by, replicate, ◌==◌, nat_lt, slice_index}
 use Rattle.protocol.specs.declared.line.Line.{Line}
 use Rattle.protocol.specs.declared.measures.Measures.{Measures}
 use Rattle.protocol.specs.declared.state.State.{State}
@@ -14,17 +14,16 @@ place_of SM = 2
 place_of S = 3
 place_of I = 4
 
-abbrev pub stands : ℕ → Line → Bool
-stands place line = place_of line.state == place
+abbrev pub stands : State → Line → Bool
+stands state line = place_of line.state == place_of state
 
-abbrev pub count_of : (Line → Bool) → List Line → ℕ
-count_of test [] = 0
-count_of test (line ∷ lines) = cond (test line) 1 0 + count_of test lines
+unfoldable pub count_in : State → List Line → ℕ
+count_in state lines = count_by (stands state) lines
 
 -- EM, EC, SM, S, I
-unfoldable pub row_of : List Line → List ℕ
+abbrev pub row_of : List Line → List ℕ
 row_of lines =
-    count_of (stands 0) lines ∷ (count_of (stands 1) lines ∷ (count_of (stands 2) lines ∷ (count_of (stands 3) lines ∷ (count_of (stands 4) lines ∷ []))))
+    count_in EM lines ∷ (count_in EC lines ∷ (count_in SM lines ∷ (count_in S lines ∷ (count_in I lines ∷ []))))
 
 -- a processor's lines reach to the first of the next processor
 abbrev pub first_line : Measures → ℕ → ℕ

@@ -47,6 +47,7 @@ fn drain_lines<M: Memory>(lines: &mut [Line], memory: &mut M) -> Result<u32, Ref
     Ok(blocks)
 }
 
+#[tactic(auto, unfolding(crate::specs::Draining::drain_rule))]
 // Writes every modified block back; every line becomes I. Refuses a table of wrong length with 2, and stops with 11 at a
 // block that memory refuses.
 pub fn drain<M: Memory>(

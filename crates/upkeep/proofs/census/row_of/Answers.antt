@@ -14,12 +14,12 @@ returns-then-processor-processors c =
 pub row-requires : goal.row-requires
 row-requires c =
     let lines = c.args.lines.now in
-    let a = c.window.result in
-    let b = c.window-2.result in
+    let a = c.window-start.result.from in
+    let b = c.window-end.result.from in
     let long = length-take (b - a) (drop a lines) in
     let left = length-drop a lines in
     let few = few_lines c.args.geometry.now in
-    let fit = c.requires.fit in
+    let fit = c.requires in
     grind (arith, long, left, few, fit)
 
 pub returns : goal.returns
@@ -29,6 +29,6 @@ returns c =
     let lines = c.args.lines.now in
     let p = c.args.processor in
     let here : ltb p m.processors ≡ true = let met = c.if-processor-processors.false in let same = c.processors.ensures.value in grind (arith, nat_tests) in
-    let part : take (c.window-2.result - c.window.result) (drop c.window.result lines) ≡ cache_of m lines p
-    = λ k. take (c.window-2.ensures.value k - c.window.ensures.value k) (drop (c.window.ensures.value k) lines) in
+    let part : take (c.window-end.result.from - c.window-start.result.from) (drop c.window-start.result.from lines) ≡ cache_of m lines p
+    = λ k. take ((c.window-end.ensures.value k).from - (c.window-start.ensures.value k).from) (drop ((c.window-start.ensures.value k).from) lines) in
     c.row.ensures ∙ ap row_of part ∙ ap (λ b. cond b (row_of (cache_of m lines p)) (replicate 5 0)) (sym here)
