@@ -19,7 +19,6 @@ fn copy_record(
 ) -> Result<(), Refusal>
     requires next { (writer.old.count ≡ index) × (index < records_in trace.now.records.now) }
     requires room { records_in trace.now.records.now * 16 + 8 ≤ length output.old }
-    requires few { records_in trace.now.records.now ≤ 1048576 }
     requires sound { wrong_from writer.old.processors writer.old.stamp index (records_in trace.now.records.now - index) (drop (index * 16) trace.now.records.now) ≡ None }
     ensures answer { result ≡ Ok tt }
     ensures count { writer.new.count ≡ index + 1 }
@@ -36,9 +35,6 @@ fn copy_record(
 fn copy_records(writer: &mut Writer, output: &mut [u8], trace: &Trace) -> Result<(), Refusal>
     requires start { (writer.old.count ≡ 0) × ((writer.old.stamp ≡ 0) × (writer.old.processors ≡ trace.now.processors)) }
     requires room { records_in trace.now.records.now * 16 + 8 ≤ length output.old }
-    requires few { records_in trace.now.records.now ≤ 1048576 }
-    requires whole { length trace.now.records.now ≡ records_in trace.now.records.now * 16 }
-    requires sound { wrong_from trace.now.processors 0 0 (records_in trace.now.records.now) trace.now.records.now ≡ None }
     ensures answer { result ≡ Ok tt }
     ensures count { writer.new.count ≡ records_in trace.now.records.now }
     ensures processors { writer.new.processors ≡ trace.now.processors }

@@ -15,6 +15,10 @@ use protocol::refusal::Refusal;
 pub struct Trace<'a> {
     records: &'a [u8],
     processors: u8,
+    ghost sound: { wrong_from processors 0 0 (records_in records.now) records.now ≡ None },
+    ghost whole: { length records.now ≡ records_in records.now * 16 },
+    ghost few: { records_in records.now ≤ 1048576 },
+    ghost served: { (1 ≤ processors) × (processors ≤ 8) },
 }
 
 // Whether a record may stand behind one with this stamp.

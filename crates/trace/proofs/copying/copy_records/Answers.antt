@@ -15,7 +15,7 @@ loop-i-preserved c =
     let next : i * 16 + 16 ≡ (i + 1) * 16 = omega arith in
     let count = c.count-i-end.ensures in
     let below : i < records_in bytes = omega (arith, c.loop-i-test.true, count) in
-    let whole : length bytes ≡ records_in bytes * 16 = c.requires.whole in (
+    let whole : length bytes ≡ records_in bytes * 16 = c.args.trace.now.whole in (
       one.count,
       one.processors ∙ inv.1,
       one.output ∙ ap (λ ys. written ys (i * 16) (take 16 (drop (i * 16) bytes))) inv.2
@@ -32,5 +32,5 @@ returns c =
       answer = refl;
       count = inv.0 ∙ end;
       processors = inv.1;
-      output = inv.2 ∙ ap (written c.args.output.now 0) (take_all (c.loop-i.i * 16) bytes (omega (arith, end, c.requires.whole)));
+      output = inv.2 ∙ ap (written c.args.output.now 0) (take_all (c.loop-i.i * 16) bytes (omega (arith, end, c.args.trace.now.whole)));
     }
