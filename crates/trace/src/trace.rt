@@ -7,7 +7,7 @@ ghost use Rattle.trace.specs.Traces.{follows, lawful_record, wrong_from, next_of
 ghost use Rattle.trace.specs.Writing.{trailer_bytes};
 
 use crate::record::{RECORD_SIZE, Record, decode};
-use crate::trailer::trailer_of;
+use crate::trailer::Trailer;
 pub use crate::trailer::{MOST_RECORDS, TRAILER_SIZE, VERSION};
 use protocol::refusal::Refusal;
 
@@ -66,7 +66,7 @@ impl<'a> Trace<'a> {
         ensures few { IfOk result (λ t. records_in t.records.now ≤ 1048576) }
         ensures lawful { IfOk result (λ t. (1 ≤ t.processors) × (t.processors ≤ 8)) }
     {
-        let Some(trailer) = trailer_of(bytes) else {
+        let Some(trailer) = Trailer::decode(bytes) else {
             return Err(Refusal::Trailer);
         };
         let end = bytes.len() - TRAILER_SIZE;

@@ -10,7 +10,7 @@ returns c =
     let w = c.args.self in
     let out = c.args.output.now in
     let fits : ltb (length out) (w.count * 16 + 8) ≡ false = grind (arith, nat_tests) in
-    let placed = c.put_bytes.ensures ∙ ap (written out (w.count * 16)) c.trailer_bytes.ensures in
+    let placed = c.put_bytes.ensures ∙ ap (written out (w.count * 16)) c.encode.ensures in
     record {
       answer = rw fits refl;
       output = rw fits placed;

@@ -9,10 +9,10 @@ returns c =
     let w = c.args.self.now in
     let out = c.args.output.now in
     let r = c.args.next in
-    let none = c.in_default.ensures.value in
+    let none = c.in_ok-check.ensures.value in
     let done = put_done w.processors w.count w.stamp out r none in
     let placed = c.put_bytes.ensures ∙ ap (written out (w.count * 16)) c.encode.ensures.value in
-    let fits = c.in_default.ensures.room refl in
+    let fits = c.in_ok-check.ensures.room refl in
     record {
       answer = ap (λ p. p.answer) done;
       count = ap (λ p. p.count) done;
