@@ -1,18 +1,12 @@
 -- Encoding and decoding undo each other.
-use Rattle.std.proofs.Common.{◌≡◌, ℕ, zero, suc, Bool, true, false, cond, None, Option, ◌+◌, ◌*◌, ◌/◌, ◌%◌, ◌^◌, ◌<◌, ◌≤◌, List, [], ◌∷◌, ◌++◌, length, get_or, take, drop, Some, sym, refl, ap, ◌∙◌, arith, length-drop}
-use Rattle.std.proofs.lemmas.List.{drop_more, get_or-drop, take_all}
+use Rattle.std.proofs.Common.{◌≡◌, ℕ, zero, suc, ◌+◌, ◌/◌, ◌%◌, ◌<◌, ◌≤◌, List, [], ◌∷◌, ◌++◌, length, get_or, take, drop, Some, sym, refl, ap, ◌∙◌, arith}
+use Rattle.std.proofs.lemmas.List.{drop_more, take_all}
 use Rattle.std.proofs.lemmas.Bool.Decides.{nat_tests}
-use Rattle.std.specs.Option.{option_map}
 use Rattle.protocol.specs.declared.command.Command.{Command}
 use Rattle.protocol.specs.declared.command.Command.TheVariants.{R, W, DW, RI, RP, RB, LR, UW, U}
 use Rattle.trace.specs.declared.record.Record.{Record}
-use Rattle.trace.specs.Records.{number_at, number_bytes, code_of, data_of, wordless_for, command_for, encoded, well_formed, decoded}
-use Rattle.trace.specs.Traces.{when_some}
-use Rattle.trace.specs.Writing.{trailer_bytes}
-use Rattle.trace.proofs.Numbers.{number_whole, bytes_of_number}
-
-pub not_some : {X : Type 0} {x : X} → Some x ≡ None → ⊥
-not_some h = let no_way : ◌≡◌ {A = ℕ} 0 1 = cc in omega arith
+use Rattle.trace.specs.Records.{number_at, number_bytes, code_of, data_of, wordless_for, command_for, encoded}
+use Rattle.trace.proofs.Numbers.{bytes_of_number}
 
 command_back : (c : Command) → command_for (code_of c) (data_of c) ≡ Some c
 command_back R = refl

@@ -45,9 +45,8 @@ fn first_wrong(records: &[u8], processors: u8) -> Option<u32>
     ensures { result ≡ wrong_from processors 0 0 (records_in records.now) records.now }
 {
     let mut stamp = 0;
-    for i in 0..records.len() / RECORD_SIZE {
-        let at = i * RECORD_SIZE;
-        match lawful_record(&records[at..at + RECORD_SIZE], processors, stamp) {
+    for (i, bytes) in records.chunks_exact(RECORD_SIZE).enumerate() {
+        match lawful_record(bytes, processors, stamp) {
             Some(next) => stamp = next.stamp,
             None => return Some(i as u32),
         }
@@ -98,11 +97,8 @@ impl<'a> Trace<'a> {
         ensures value { result ≡ decoded (take 16 (drop (index * 16) self.now.records.now)) }
         ensures back { IfSome result (λ got. encoded got ≡ take 16 (drop (index * 16) self.now.records.now)) }
     {
-        if index >= self.count() {
-            return None;
-        }
-        let at = index * RECORD_SIZE;
-        decode(&self.records[at..at + RECORD_SIZE])
+        let (records, _) = self.records.as_chunks::<RECORD_SIZE>();
+        decode(records.get(index)?)
     }
 
     // The first record of the processor from an index on, or the number of records where there is none.
@@ -111,11 +107,9 @@ impl<'a> Trace<'a> {
         ensures later { from ≤ records_in self.now.records.now → from ≤ result }
         ensures bound { result ≤ records_in self.now.records.now }
     {
-        for i in from..self.count() {
-            if self.records[i * RECORD_SIZE + 4] == processor {
-                return i;
-            }
-        }
-        self.count()
+        let (records, _) = self.records.as_chunks::<RECORD_SIZE>();
+        (from..records.len())
+            .find(|&i| records[i][4] == processor)
+            .unwrap_or(records.len())
     }
 }
