@@ -7,6 +7,7 @@ ghost use Rattle.trace.specs.Traces.{follows, lawful_record, wrong_from, next_of
 ghost use Rattle.trace.specs.Writing.{trailer_bytes};
 
 use crate::record::{RECORD_SIZE, Record, decode};
+use crate::records::Records;
 use crate::trailer::Trailer;
 pub use crate::trailer::{MOST_RECORDS, TRAILER_SIZE, VERSION};
 use protocol::refusal::Refusal;
@@ -99,6 +100,14 @@ impl<'a> Trace<'a> {
     {
         let (records, _) = self.records.as_chunks::<RECORD_SIZE>();
         decode(records.get(index)?)
+    }
+
+    pub fn records(&self) -> Records<'a>
+        ensures { result.bytes.now ≡ self.now.records.now }
+    {
+        Records {
+            bytes: self.records,
+        }
     }
 
     // The first record of the processor from an index on, or the number of records where there is none.
