@@ -1,6 +1,6 @@
 // A record and its sixteen bytes.
 ghost use Rattle.std.specs.Prelude.{◌≡◌, IfSome, Some};
-ghost use Rattle.trace.specs.Records.{code_of, data_of, wordless_for, command_for, encoded, decoded};
+ghost use Rattle.trace.specs.Records.{code_of, data_of, command_for, encoded, decoded};
 
 use protocol::command::{Command, Request};
 
@@ -12,30 +12,21 @@ pub struct Record {
     pub request: Request,
 }
 
-fn wordless_command(code: u8) -> Option<Command>
-    ensures { result ≡ wordless_for code }
-{
-    match code {
-        0 => Some(Command::R),
-        3 => Some(Command::RI),
-        4 => Some(Command::RP),
-        5 => Some(Command::RB),
-        6 => Some(Command::LR),
-        8 => Some(Command::U),
-        _ => None,
-    }
-}
-
 // A command that writes no word has data 0.
 fn command_of(code: u8, word: u32) -> Option<Command>
     ensures { result ≡ command_for code word }
 {
-    match code {
-        1 => Some(Command::W(word)),
-        2 => Some(Command::DW(word)),
-        7 => Some(Command::UW(word)),
-        _ if word != 0 => None,
-        _ => wordless_command(code),
+    match (code, word) {
+        (0, 0) => Some(Command::R),
+        (1, _) => Some(Command::W(word)),
+        (2, _) => Some(Command::DW(word)),
+        (3, 0) => Some(Command::RI),
+        (4, 0) => Some(Command::RP),
+        (5, 0) => Some(Command::RB),
+        (6, 0) => Some(Command::LR),
+        (7, _) => Some(Command::UW(word)),
+        (8, 0) => Some(Command::U),
+        _ => None,
     }
 }
 

@@ -32,12 +32,7 @@ pub(crate) fn may_follow(next: &Record, processors: u8, stamp: u32) -> bool
 fn lawful_record(bytes: &[u8], processors: u8, stamp: u32) -> Option<Record>
     ensures { result ≡ lawful_record processors stamp bytes.now }
 {
-    let next = decode(bytes)?;
-    if may_follow(&next, processors, stamp) {
-        Some(next)
-    } else {
-        None
-    }
+    decode(bytes).filter(|next| may_follow(next, processors, stamp))
 }
 
 // The index of the first record that breaks a rule, if one does.
@@ -66,9 +61,7 @@ impl<'a> Trace<'a> {
         ensures few { IfOk result (λ t. records_in t.records.now ≤ 1048576) }
         ensures lawful { IfOk result (λ t. (1 ≤ t.processors) × (t.processors ≤ 8)) }
     {
-        let Some(trailer) = Trailer::decode(bytes) else {
-            return Err(Refusal::Trailer);
-        };
+        let trailer = Trailer::decode(bytes).ok_or(Refusal::Trailer)?;
         let end = bytes.len() - TRAILER_SIZE;
         let records = &bytes[end - trailer.size as usize..end];
         match first_wrong(records, trailer.processors) {

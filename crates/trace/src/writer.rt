@@ -3,7 +3,7 @@ ghost use Rattle.std.specs.Prelude.{◌≡◌, ◌+◌, ◌*◌, ◌<◌, ◌≤
 ghost use Rattle.std.specs.Result.{result_map_both, result_err};
 ghost use Rattle.trace.specs.declared.record.Record.{Record};
 ghost use Rattle.trace.specs.Traces.{trace_of};
-ghost use Rattle.trace.specs.Writing.{written, trailer_bytes, open_answer, put_refusal, put_rule, close_rule, Holds};
+ghost use Rattle.trace.specs.Writing.{written, trailer_bytes, open_answer, put_refusal, put_rule, close_rule};
 
 use crate::record::{RECORD_SIZE, Record, encode};
 use crate::trace::may_follow;
@@ -27,11 +27,13 @@ fn put_bytes(output: &mut [u8], at: usize, new: &[u8])
 }
 
 impl Writer {
+    ghost use Rattle.trace.specs.Written.{HasPut};
+
     // Refuses unlawful processors with 12, then an output without room for the trailer with 14.
     pub fn open(output: &[u8], processors: u8) -> Result<Writer, Refusal>
         ensures answer { result_map_both (λ _. tt) (λ refusal. refusal) result ≡ open_answer output.now processors }
         ensures start { IfOk result (λ w. (w.processors ≡ processors) × (w.count ≡ 0) × (w.stamp ≡ 0)) }
-        ensures holds_none { IfOk result (λ w. Holds w.processors w.count w.stamp output.now []) }
+        ensures holds_none { IfOk result (λ w. HasPut w output.now []) }
     {
         if !may_serve(processors) {
             return Err(Refusal::Trailer);
@@ -68,8 +70,7 @@ impl Writer {
         ensures stamp { self.new.stamp ≡ (put_rule self.old.processors self.old.count self.old.stamp output.old next).stamp }
         ensures output { output.new ≡ (put_rule self.old.processors self.old.count self.old.stamp output.old next).output }
         ensures processors { self.new.processors ≡ self.old.processors }
-        ensures holds_more { is_ok result ≡ true → (rs : List Record) → Holds self.old.processors self.old.count self.old.stamp output.old rs
-            → Holds self.new.processors self.new.count self.new.stamp output.new (rs ++ (next ∷ [])) }
+        ensures holds_more { is_ok result ≡ true → (rs : List Record) → HasPut self.old output.old rs → HasPut self.new output.new (rs ++ (next ∷ [])) }
     {
         self.check(&next, output.len())?;
         put_bytes(output, self.count * RECORD_SIZE, &encode(next));
@@ -82,7 +83,7 @@ impl Writer {
     pub fn close(self, output: &mut [u8]) -> Result<usize, Refusal>
         ensures answer { result ≡ (close_rule self.processors self.count output.old).answer }
         ensures output { output.new ≡ (close_rule self.processors self.count output.old).output }
-        ensures reads_back { (rs : List Record) → Holds self.processors self.count self.stamp output.old rs
+        ensures reads_back { (rs : List Record) → HasPut self output.old rs
             → (result ≡ Ok (self.count * 16 + 8)) × (trace_of (take (self.count * 16 + 8) output.new) ≡ Ok (record { processors = self.processors; records = rs })) }
     {
         let size = self.count * RECORD_SIZE;
