@@ -80,9 +80,6 @@ module _ (bs : List ℕ) (size : ℕ) (held : size + 8 ≤ length bs) where
       let wide : length bs - 8 - (length bs - 8 - size) ≤ length (drop (length bs - 8 - size) bs) = omega arith in
       length-take-le (length bs - 8 - (length bs - 8 - size)) (drop (length bs - 8 - size) bs) wide ∙ omega arith
 
-  pub part_whole : size % 16 ≡ 0 → length part ≡ records_in part * 16
-  part_whole even = let long = length_part in let same : length part % 16 ≡ 0 = ap (λ n. n % 16) long ∙ even in omega arith
-
   pub last_part : (processors : ℕ) → trailer_bytes size processors ≡ drop (length bs - 8) bs
       → part ++ trailer_bytes (length part) processors ≡ drop (length bs - (length part + 8)) bs
   last_part processors e =
