@@ -1,48 +1,61 @@
 -- A trace's records put one after another.
+use Prim.{tt}
 use Rattle.std.proofs.Common.{◌≡◌, ℕ, zero, suc, ◌+◌, ◌-◌, ◌*◌, ◌<◌, ◌≤◌, true, false, cond, ltb, leb, List, ◌++◌, length, take, drop, Some, None, Ok, Err, sym, refl, ap, ◌∙◌, arith, length-append, take-add}
 use Rattle.std.proofs.lemmas.List.{append_assoc, drop_at, drop-drop, take_at, length-take-le}
 use Rattle.std.proofs.lemmas.Bool.Decides.{nat_tests}
 use Rattle.protocol.specs.declared.refusal.Refusal.TheVariants as refusal
 use Rattle.trace.specs.declared.record.Record.{Record}
-use Rattle.trace.specs.Records.{decoded}
+use Rattle.trace.specs.Records.{encoded, decoded, Takes}
 use Rattle.trace.specs.Traces.{follows, wrong_from, records_from, content_of, trace_of, when_some}
 use Rattle.trace.specs.Sizes.{records_in}
-use Rattle.trace.specs.Writing.{written, trailer_bytes, put_refusal, Closed, close_rule, copy_rule}
-use Rattle.trace.proofs.Puts.{First, first_known, not_some}
+use Rattle.trace.specs.Writing.{written, trailer_bytes, Put, put_refusal, put_rule, Closed, close_rule, copy_rule}
+use Rattle.trace.proofs.Reading.{records_more}
+use Rattle.trace.proofs.Puts.{First, first_known, not_some, put_done}
 
-module _ (processors stamp i count : ℕ) (bytes : List ℕ) (below : i < count)
-    (sound : wrong_from processors stamp i (count - i) (drop (i * 16) bytes) ≡ None) where
-  first : First processors stamp i (count - (i + 1)) (drop (i * 16) bytes)
-  first =
-      let more : count - i ≡ suc (count - (i + 1)) = omega arith in
-      first_known processors stamp i (count - (i + 1)) (drop (i * 16) bytes)
-      (ap (λ n. wrong_from processors stamp i n (drop (i * 16) bytes)) (sym more) ∙ sound)
+module _ (processors stamp i : ℕ) (bytes : List ℕ) (sound : wrong_from processors stamp i (records_in bytes) bytes ≡ None) where
+  -- a record that is taken off may follow, and so may what comes behind it
+  module _ (rest : List ℕ) (r : Record) (taken : Takes bytes (Some r) rest) where
+    first : First processors stamp i (records_in rest) bytes
+    first =
+        let more = records_more bytes (encoded r) rest taken.1 refl in
+        first_known processors stamp i (records_in rest) bytes (ap (λ n. wrong_from processors stamp i n bytes) (sym more) ∙ sound)
 
-  -- there is a record, it may follow, and so may what comes behind it
-  pub there : None ≡ decoded (take 16 (drop (i * 16) bytes)) → ⊥
-  there none = not_some (sym (none ∙ first.given))
-
-  module _ (r : Record) (given : Some r ≡ decoded (take 16 (drop (i * 16) bytes))) where
     same : r ≡ first.head
-    same = ap (λ o. when_some o (λ q. q) r) (given ∙ first.given)
+    same = ap (λ o. when_some o (λ q. q) r) (sym taken.0 ∙ first.given)
 
     pub may : follows processors stamp r ≡ true
     may = ap (follows processors stamp) same ∙ first.may
 
-    pub behind : wrong_from processors r.stamp (i + 1) (count - (i + 1)) (drop ((i + 1) * 16) bytes) ≡ None
+    pub behind : wrong_from processors r.stamp (i + 1) (records_in rest) rest ≡ None
     behind =
-        let on : (i + 1) * 16 ≡ i * 16 + 16 = omega arith in
-        ap (λ m. wrong_from processors r.stamp (i + 1) (count - (i + 1)) (drop m bytes)) on
-        ∙ ap (wrong_from processors r.stamp (i + 1) (count - (i + 1))) (sym (drop-drop 16 (i * 16) bytes))
-        ∙ ap (λ q. wrong_from processors q.stamp (i + 1) (count - (i + 1)) (drop 16 (drop (i * 16) bytes))) same
+        ap (λ q. wrong_from processors q.stamp (i + 1) (records_in rest) rest) same
+        ∙ ap (wrong_from processors first.head.stamp (i + 1) (records_in rest)) (sym (ap (drop 16) taken.1 ∙ drop_at (encoded r) rest 16 refl))
         ∙ first.rest
 
-pub put_goes : (processors count stamp long : ℕ) (r : Record) → follows processors stamp r ≡ true → count < 1048576 → count * 16 + 24 ≤ long
+  -- where none is taken off, none is left
+  pub none_left : decoded (take 16 bytes) ≡ None → records_in bytes ≡ 0
+  none_left none = by_count (records_in bytes) sound
+    where
+      by_count : (n : ℕ) → wrong_from processors stamp i n bytes ≡ None → n ≡ 0
+      by_count zero h = refl
+      by_count (suc n) h = absurd (not_some (sym (first_known processors stamp i n bytes h).given ∙ none))
+
+put_goes : (processors count stamp long : ℕ) (r : Record) → follows processors stamp r ≡ true → count < 1048576 → count * 16 + 24 ≤ long
     → None ≡ put_refusal processors count stamp long r
 put_goes processors count stamp long r may few room =
     let low : ltb count 1048576 ≡ true = grind (arith, nat_tests) in
     let fits : leb (count * 16 + 24) long ≡ true = grind (arith, nat_tests) in
     rw may (rw low (rw fits refl))
+
+-- of n records that have room, one that is taken off is put
+pub put_taken : (processors stamp i n : ℕ) (bytes rest output : List ℕ) (r : Record)
+    → wrong_from processors stamp i (records_in bytes) bytes ≡ None → Takes bytes (Some r) rest
+    → i + records_in bytes ≡ n → n ≤ 1048576 → n * 16 + 8 ≤ length output
+    → ◌≡◌ {A = Put} (record { answer = Ok tt; count = i + 1; stamp = r.stamp; output = written output (i * 16) (encoded r) }) (put_rule processors i stamp output r)
+put_taken processors stamp i n bytes rest output r sound taken all few room =
+    let more = records_more bytes (encoded r) rest taken.1 refl in
+    put_done processors i stamp output r
+    (put_goes processors i stamp (length output) r (may processors stamp i bytes sound rest r taken) (omega (arith, more, all, few)) (omega (arith, more, all, room)))
 
 -- new bytes behind those written before
 pub written_behind : (bytes front next : List ℕ) (k : ℕ) → length front ≡ k → written (written bytes 0 front) k next ≡ written bytes 0 (front ++ next)

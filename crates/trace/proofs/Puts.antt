@@ -4,6 +4,7 @@ use Rattle.std.proofs.Common.{◌≡◌, ℕ, zero, suc, ◌+◌, ◌-◌, ◌*�
 use lib.Seq.{take-append-le}
 use Rattle.std.proofs.lemmas.List.{append_assoc, get_or-append-add, drop_at, drop-drop, take_at, take-take, length-take-le}
 use Rattle.std.proofs.lemmas.Bool.Decides.{nat_tests}
+use Rattle.std.proofs.lemmas.Option.{none-some}
 use Rattle.protocol.specs.declared.refusal.Refusal.TheVariants as refusal
 use Rattle.trace.specs.declared.record.Record.{Record}
 use Rattle.trace.specs.declared.trailer.Trailer.{Trailer}
@@ -15,7 +16,7 @@ use Rattle.trace.proofs.Reading.{wrong_front, records_front}
 use Rattle.trace.specs.Writing.{written, trailer_bytes, last_stamp, Put, put_refusal, put_rule, Holds}
 
 pub not_some : {X : Type 0} {x : X} → Some x ≡ None → ⊥
-not_some h = let no_way : ◌≡◌ {A = ℕ} 0 1 = cc in omega arith
+not_some h = none-some _ (sym h)
 
 -- the first of some records that break no rule
 pub record First (processors stamp i n : ℕ) (bytes : List ℕ) : Type 0 where

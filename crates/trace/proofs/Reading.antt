@@ -1,8 +1,9 @@
 -- Records one after another, read from their bytes.
-use Rattle.std.proofs.Common.{◌≡◌, ℕ, zero, suc, ◌+◌, ◌-◌, ◌*◌, ◌%◌, ◌<◌, ◌≤◌, List, [], ◌∷◌, ◌++◌, length, take, drop, Some, None, Option, sym, refl, ap, ◌∙◌, arith, length-drop, take-append-drop, length-take}
+use Rattle.std.proofs.Common.{◌≡◌, ℕ, zero, suc, ◌+◌, ◌-◌, ◌*◌, ◌%◌, ◌<◌, ◌≤◌, List, [], ◌∷◌, ◌++◌, ◌/◌, length, get_or, take, drop, Some, None, Option, sym, refl, ap, ◌∙◌, arith, length-append, length-drop, take-append-drop, length-take}
 use lib.Seq.{take-append-le, drop-append-le}
-use Rattle.std.proofs.lemmas.List.{drop-drop, length-take-le}
+use Rattle.std.proofs.lemmas.List.{drop_at, drop-drop, length-take-le, take_at}
 use Rattle.std.proofs.lemmas.Bool.Decides.{nat_tests}
+use Rattle.std.specs.Simd.{first_chunks}
 use Rattle.trace.specs.declared.record.Record.{Record}
 use Rattle.trace.specs.Records.{decoded}
 use Rattle.trace.specs.Sizes.{records_in}
@@ -19,20 +20,32 @@ past_records bs i h =
     let some = length-take 16 (drop (i * 16) bs) in
     grind arith
 
+-- the records as arrays of sixteen bytes
+chunk_at : (count i : ℕ) (bs d : List ℕ) → i < count → get_or (first_chunks 16 count bs) i d ≡ take 16 (drop (i * 16) bs)
+chunk_at zero i bs d h = absurd (omega (arith, h))
+chunk_at (suc count) zero bs d h = refl
+chunk_at (suc count) (suc i) bs d h =
+    let on : 16 + i * 16 ≡ suc i * 16 = omega arith in
+    chunk_at count i (drop 16 bs) d (omega (arith, h)) ∙ ap (take 16) (drop-drop (i * 16) 16 bs ∙ ap (λ m. drop m bs) on)
+
+pub record_at : (bs : List ℕ) (chunks : List (List ℕ)) (i : ℕ) (d : List ℕ) → chunks ≡ first_chunks 16 (length bs / 16) bs → length chunks ≡ length bs / 16
+    → i < length chunks → get_or chunks i d ≡ take 16 (drop (i * 16) bs)
+record_at bs chunks i d front long h =
+    ap (λ cs. get_or cs i d) front ∙ chunk_at (length bs / 16) i bs d (omega (arith, h, long))
+
 -- the sixteen bytes of a record, and what comes behind them
-pub wrong_next : (processors stamp i count : ℕ) (bs : List ℕ) (o : Option Record) → i < count
-    → o ≡ lawful_record processors stamp (take (i * 16 + 16 - i * 16) (drop (i * 16) bs))
-    → wrong_from processors stamp i (count - i) (drop (i * 16) bs)
-    ≡ when_some o (λ r. wrong_from processors r.stamp (i + 1) (count - (i + 1)) (drop ((i + 1) * 16) bs)) (Some i)
-wrong_next processors stamp i count bs o below e =
-    let wide : i * 16 + 16 - i * 16 ≡ 16 = omega arith in
-    let on : i * 16 + 16 ≡ (i + 1) * 16 = omega arith in
-    let more : count - i ≡ suc (count - (i + 1)) = omega arith in
-    let n = count - (i + 1) in
-    ap (λ m. wrong_from processors stamp i m (drop (i * 16) bs)) more
-    ∙ ap (λ x. when_some x (λ r. wrong_from processors r.stamp (i + 1) n (drop 16 (drop (i * 16) bs))) (Some i))
-    (sym (e ∙ ap (λ m. lawful_record processors stamp (take m (drop (i * 16) bs))) wide))
-    ∙ ap (λ rest. when_some o (λ r. wrong_from processors r.stamp (i + 1) n rest) (Some i)) (drop-drop 16 (i * 16) bs ∙ ap (λ m. drop m bs) on)
+module _ (bs next rest : List ℕ) (split : bs ≡ next ++ rest) (long : length next ≡ 16) where
+  pub records_more : records_in bs ≡ suc (records_in rest)
+  records_more = let all = ap length split ∙ length-append next rest in omega arith
+
+  pub wrong_next : (processors stamp i : ℕ) (o : Option Record) → o ≡ lawful_record processors stamp next
+      → when_some o (λ r. wrong_from processors r.stamp (i + 1) (records_in rest) rest) (Some i) ≡ wrong_from processors stamp i (records_in bs) bs
+  wrong_next processors stamp i o e =
+      let behind = λ (ys : List ℕ) (r : Record). wrong_from processors r.stamp (i + 1) (records_in rest) ys in
+      sym (ap (λ n. wrong_from processors stamp i n bs) records_more
+      ∙ ap (λ x. when_some (lawful_record processors stamp x) (behind (drop 16 bs)) (Some i)) (ap (take 16) split ∙ take_at next rest 16 long)
+      ∙ ap (λ ys. when_some (lawful_record processors stamp next) (behind ys) (Some i)) (ap (drop 16) split ∙ drop_at next rest 16 long)
+      ∙ ap (λ x. when_some x (behind rest) (Some i)) (sym e))
 
 -- the first n records do not depend on the bytes behind them
 module _ (processors : ℕ) where
@@ -66,9 +79,6 @@ module _ (bs : List ℕ) (size : ℕ) (held : size + 8 ≤ length bs) where
       let rest = length-drop (length bs - 8 - size) bs in
       let wide : length bs - 8 - (length bs - 8 - size) ≤ length (drop (length bs - 8 - size) bs) = omega arith in
       length-take-le (length bs - 8 - (length bs - 8 - size)) (drop (length bs - 8 - size) bs) wide ∙ omega arith
-
-  pub part_whole : size % 16 ≡ 0 → length part ≡ records_in part * 16
-  part_whole even = let long = length_part in let same : length part % 16 ≡ 0 = ap (λ n. n % 16) long ∙ even in omega arith
 
   pub last_part : (processors : ℕ) → trailer_bytes size processors ≡ drop (length bs - 8) bs
       → part ++ trailer_bytes (length part) processors ≡ drop (length bs - (length part + 8)) bs

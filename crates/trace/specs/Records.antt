@@ -1,5 +1,5 @@
 -- A record and its sixteen bytes.
-use Rattle.std.specs.Prelude.{ℕ, ◌+◌, ◌*◌, ◌/◌, ◌%◌, Bool, cond, ◌&&◌, List, [], ◌∷◌, ◌++◌, length, Some, None, Option, ◌==◌, slice_index}
+use Rattle.std.specs.Prelude.{◌≡◌, ℕ, ◌+◌, ◌*◌, ◌/◌, ◌%◌, Bool, cond, ◌&&◌, List, [], ◌∷◌, ◌++◌, length, take, Some, None, Option, ◌==◌, slice_index}
 use Rattle.std.specs.Option.{option_map}
 use Rattle.protocol.specs.declared.command.Command.{Command}
 use Rattle.protocol.specs.declared.command.Command.TheVariants.{R, W, DW, RI, RP, RB, LR, UW, U}
@@ -65,3 +65,8 @@ decoded bytes =
     })
     (command_for (slice_index bytes 5) (number_at bytes 12)))
     None
+
+-- the first record of some bytes, and the bytes behind it
+abbrev pub Takes : List ℕ → Option Record → List ℕ → Type 0
+Takes bytes None rest = (decoded (take 16 bytes) ≡ None) × (rest ≡ bytes)
+Takes bytes (Some r) rest = (decoded (take 16 bytes) ≡ Some r) × (bytes ≡ encoded r ++ rest)

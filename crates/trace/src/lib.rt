@@ -3,6 +3,7 @@
 
 pub mod copying;
 pub mod record;
+pub mod records;
 pub mod trace;
 pub mod trailer;
 pub mod writer;

@@ -1,6 +1,6 @@
 // A record and its sixteen bytes.
-ghost use Rattle.std.specs.Prelude.{◌≡◌, ◌+◌, ◌≤◌, length, IfSome, Some};
-ghost use Rattle.trace.specs.Records.{number_at, code_of, data_of, wordless_for, command_for, encoded, decoded};
+ghost use Rattle.std.specs.Prelude.{◌≡◌, IfSome, Some};
+ghost use Rattle.trace.specs.Records.{code_of, data_of, command_for, encoded, decoded};
 
 use protocol::command::{Command, Request};
 
@@ -12,38 +12,21 @@ pub struct Record {
     pub request: Request,
 }
 
-// The little-endian number in the four bytes from `at` on.
-pub(crate) fn number_at(bytes: &[u8], at: usize) -> u32
-    requires { at + 4 ≤ length bytes.now }
-    ensures { result ≡ number_at bytes.now at }
-{
-    u32::from_le_bytes([bytes[at], bytes[at + 1], bytes[at + 2], bytes[at + 3]])
-}
-
-fn wordless_command(code: u8) -> Option<Command>
-    ensures { result ≡ wordless_for code }
-{
-    match code {
-        0 => Some(Command::R),
-        3 => Some(Command::RI),
-        4 => Some(Command::RP),
-        5 => Some(Command::RB),
-        6 => Some(Command::LR),
-        8 => Some(Command::U),
-        _ => None,
-    }
-}
-
 // A command that writes no word has data 0.
 fn command_of(code: u8, word: u32) -> Option<Command>
     ensures { result ≡ command_for code word }
 {
-    match code {
-        1 => Some(Command::W(word)),
-        2 => Some(Command::DW(word)),
-        7 => Some(Command::UW(word)),
-        _ if word != 0 => None,
-        _ => wordless_command(code),
+    match (code, word) {
+        (0, 0) => Some(Command::R),
+        (1, _) => Some(Command::W(word)),
+        (2, _) => Some(Command::DW(word)),
+        (3, 0) => Some(Command::RI),
+        (4, 0) => Some(Command::RP),
+        (5, 0) => Some(Command::RB),
+        (6, 0) => Some(Command::LR),
+        (7, _) => Some(Command::UW(word)),
+        (8, 0) => Some(Command::U),
+        _ => None,
     }
 }
 
@@ -78,26 +61,17 @@ pub fn encode(put: Record) -> [u8; 16]
     ensures value { result ≡ encoded put }
     ensures back { decoded result ≡ Some put }
 {
-    let stamp = put.stamp.to_le_bytes();
-    let address = put.request.address.to_le_bytes();
-    let word = data_of(put.request.command).to_le_bytes();
+    let Request {
+        processor,
+        command,
+        address,
+    } = put.request;
+    let code = code_of(command);
+    let [s0, s1, s2, s3] = put.stamp.to_le_bytes();
+    let [a0, a1, a2, a3] = address.to_le_bytes();
+    let [d0, d1, d2, d3] = data_of(command).to_le_bytes();
     [
-        stamp[0],
-        stamp[1],
-        stamp[2],
-        stamp[3],
-        put.request.processor,
-        code_of(put.request.command),
-        0,
-        0,
-        address[0],
-        address[1],
-        address[2],
-        address[3],
-        word[0],
-        word[1],
-        word[2],
-        word[3],
+        s0, s1, s2, s3, processor, code, 0, 0, a0, a1, a2, a3, d0, d1, d2, d3,
     ]
 }
 
@@ -106,17 +80,17 @@ pub fn decode(bytes: &[u8]) -> Option<Record>
     ensures value { result ≡ decoded bytes.now }
     ensures back { IfSome result (λ got. encoded got ≡ bytes.now) }
 {
-    if bytes.len() != RECORD_SIZE || bytes[6] != 0 || bytes[7] != 0 {
+    let (&[stamp, [processor, code, 0, 0], address, data], []) = bytes.as_chunks::<4>() else {
         return None;
-    }
-    let command = command_of(bytes[5], number_at(bytes, 12))?;
-    let request = Request {
-        processor: bytes[4],
-        command,
-        address: number_at(bytes, 8),
     };
+    let command = command_of(code, u32::from_le_bytes(data))?;
+    let address = u32::from_le_bytes(address);
     Some(Record {
-        stamp: number_at(bytes, 0),
-        request,
+        stamp: u32::from_le_bytes(stamp),
+        request: Request {
+            processor,
+            command,
+            address,
+        },
     })
 }

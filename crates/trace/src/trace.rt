@@ -7,7 +7,8 @@ ghost use Rattle.trace.specs.Traces.{follows, lawful_record, wrong_from, next_of
 ghost use Rattle.trace.specs.Writing.{trailer_bytes};
 
 use crate::record::{RECORD_SIZE, Record, decode};
-use crate::trailer::trailer_of;
+use crate::records::Records;
+use crate::trailer::Trailer;
 pub use crate::trailer::{MOST_RECORDS, TRAILER_SIZE, VERSION};
 use protocol::refusal::Refusal;
 
@@ -15,6 +16,10 @@ use protocol::refusal::Refusal;
 pub struct Trace<'a> {
     records: &'a [u8],
     processors: u8,
+    ghost sound: { wrong_from processors 0 0 (records_in records.now) records.now ≡ None },
+    ghost whole: { length records.now ≡ records_in records.now * 16 },
+    ghost few: { records_in records.now ≤ 1048576 },
+    ghost served: { (1 ≤ processors) × (processors ≤ 8) },
 }
 
 // Whether a record may stand behind one with this stamp.
@@ -27,12 +32,7 @@ pub(crate) fn may_follow(next: &Record, processors: u8, stamp: u32) -> bool
 fn lawful_record(bytes: &[u8], processors: u8, stamp: u32) -> Option<Record>
     ensures { result ≡ lawful_record processors stamp bytes.now }
 {
-    let next = decode(bytes)?;
-    if may_follow(&next, processors, stamp) {
-        Some(next)
-    } else {
-        None
-    }
+    decode(bytes).filter(|next| may_follow(next, processors, stamp))
 }
 
 // The index of the first record that breaks a rule, if one does.
@@ -41,9 +41,8 @@ fn first_wrong(records: &[u8], processors: u8) -> Option<u32>
     ensures { result ≡ wrong_from processors 0 0 (records_in records.now) records.now }
 {
     let mut stamp = 0;
-    for i in 0..records.len() / RECORD_SIZE {
-        let at = i * RECORD_SIZE;
-        match lawful_record(&records[at..at + RECORD_SIZE], processors, stamp) {
+    for (i, bytes) in records.chunks_exact(RECORD_SIZE).enumerate() {
+        match lawful_record(bytes, processors, stamp) {
             Some(next) => stamp = next.stamp,
             None => return Some(i as u32),
         }
@@ -62,9 +61,7 @@ impl<'a> Trace<'a> {
         ensures few { IfOk result (λ t. records_in t.records.now ≤ 1048576) }
         ensures lawful { IfOk result (λ t. (1 ≤ t.processors) × (t.processors ≤ 8)) }
     {
-        let Some(trailer) = trailer_of(bytes) else {
-            return Err(Refusal::Trailer);
-        };
+        let trailer = Trailer::decode(bytes).ok_or(Refusal::Trailer)?;
         let end = bytes.len() - TRAILER_SIZE;
         let records = &bytes[end - trailer.size as usize..end];
         match first_wrong(records, trailer.processors) {
@@ -94,11 +91,16 @@ impl<'a> Trace<'a> {
         ensures value { result ≡ decoded (take 16 (drop (index * 16) self.now.records.now)) }
         ensures back { IfSome result (λ got. encoded got ≡ take 16 (drop (index * 16) self.now.records.now)) }
     {
-        if index >= self.count() {
-            return None;
+        let (records, _) = self.records.as_chunks::<RECORD_SIZE>();
+        decode(records.get(index)?)
+    }
+
+    pub fn records(&self) -> Records<'a>
+        ensures { result.bytes.now ≡ self.now.records.now }
+    {
+        Records {
+            bytes: self.records,
         }
-        let at = index * RECORD_SIZE;
-        decode(&self.records[at..at + RECORD_SIZE])
     }
 
     // The first record of the processor from an index on, or the number of records where there is none.
@@ -107,11 +109,9 @@ impl<'a> Trace<'a> {
         ensures later { from ≤ records_in self.now.records.now → from ≤ result }
         ensures bound { result ≤ records_in self.now.records.now }
     {
-        for i in from..self.count() {
-            if self.records[i * RECORD_SIZE + 4] == processor {
-                return i;
-            }
-        }
-        self.count()
+        let (records, _) = self.records.as_chunks::<RECORD_SIZE>();
+        (from..records.len())
+            .find(|&i| records[i][4] == processor)
+            .unwrap_or(records.len())
     }
 }

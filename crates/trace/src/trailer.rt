@@ -1,9 +1,9 @@
 // The eight bytes that end a trace.
-ghost use Rattle.std.specs.Prelude.{◌≡◌, ◌+◌, ◌-◌, ◌*◌, ◌%◌, ◌≤◌, length, drop, IfSome};
+ghost use Rattle.std.specs.Prelude.{◌≡◌, ◌+◌, ◌-◌, ◌%◌, ◌≤◌, ◌&&◌, nat_le, length, drop, IfSome};
 ghost use Rattle.trace.specs.Traces.{lawful, trailer_of};
 ghost use Rattle.trace.specs.Writing.{trailer_bytes};
 
-use crate::record::{RECORD_SIZE, number_at};
+use crate::record::RECORD_SIZE;
 
 pub const TRAILER_SIZE: usize = 8;
 
@@ -18,51 +18,47 @@ pub struct Trailer {
     pub processors: u8,
 }
 
-// Whether the trailer is one for a trace with so many bytes before it.
-fn is_lawful(trailer: Trailer, room: usize) -> bool
-    ensures { result ≡ lawful room trailer }
+// A trace is for 1 to 8 processors.
+pub(crate) fn may_serve(processors: u8) -> bool
+    ensures { result ≡ (nat_le 1 processors && nat_le processors 8) }
 {
-    let size = trailer.size as usize;
-    size % RECORD_SIZE == 0
-        && size <= RECORD_SIZE * MOST_RECORDS
-        && size <= room
-        && 1 <= trailer.processors
-        && trailer.processors <= 8
+    (1..=8).contains(&processors)
 }
 
-// Size, version, processors, two zero bytes.
-pub(crate) fn trailer_of(bytes: &[u8]) -> Option<Trailer>
-    ensures value { result ≡ trailer_of bytes.now }
-    ensures back { IfSome result (λ t. trailer_bytes t.size t.processors ≡ drop (length bytes.now - 8) bytes.now) }
-    ensures held { IfSome result (λ t. t.size + 8 ≤ length bytes.now) }
-    ensures few { IfSome result (λ t. t.size ≤ 16777216) }
-    ensures whole { IfSome result (λ t. t.size % 16 ≡ 0) }
-    ensures served { IfSome result (λ t. (1 ≤ t.processors) × (t.processors ≤ 8)) }
-{
-    if bytes.len() < TRAILER_SIZE {
-        return None;
-    }
-    let end = bytes.len() - TRAILER_SIZE;
-    let trailer = Trailer {
-        size: number_at(bytes, end),
-        processors: bytes[end + 5],
-    };
-    if bytes[end + 4] == VERSION
-        && bytes[end + 6] == 0
-        && bytes[end + 7] == 0
-        && is_lawful(trailer, end)
+impl Trailer {
+    // Whether it is one for a trace with so many bytes before it.
+    fn is_lawful(self, room: usize) -> bool
+        ensures { result ≡ lawful room self }
     {
-        Some(trailer)
-    } else {
-        None
+        let size = self.size as usize;
+        size % RECORD_SIZE == 0
+            && size <= RECORD_SIZE * MOST_RECORDS
+            && size <= room
+            && may_serve(self.processors)
     }
-}
 
-pub(crate) fn trailer_bytes(size: u32, processors: u8) -> [u8; 8]
-    ensures { result ≡ trailer_bytes size processors }
-{
-    let number = size.to_le_bytes();
-    [
-        number[0], number[1], number[2], number[3], VERSION, processors, 0, 0,
-    ]
+    // Size, version, processors, two zero bytes.
+    pub(crate) fn decode(bytes: &[u8]) -> Option<Trailer>
+        ensures value { result ≡ trailer_of bytes.now }
+        ensures back { IfSome result (λ t. trailer_bytes t.size t.processors ≡ drop (length bytes.now - 8) bytes.now) }
+        ensures held { IfSome result (λ t. t.size + 8 ≤ length bytes.now) }
+        ensures few { IfSome result (λ t. t.size ≤ 16777216) }
+        ensures whole { IfSome result (λ t. t.size % 16 ≡ 0) }
+        ensures served { IfSome result (λ t. (1 ≤ t.processors) × (t.processors ≤ 8)) }
+    {
+        let (front, last) = bytes.split_last_chunk::<TRAILER_SIZE>()?;
+        let &[s0, s1, s2, s3, VERSION, processors, 0, 0] = last else {
+            return None;
+        };
+        let size = u32::from_le_bytes([s0, s1, s2, s3]);
+        let trailer = Trailer { size, processors };
+        trailer.is_lawful(front.len()).then_some(trailer)
+    }
+
+    pub(crate) fn encode(self) -> [u8; 8]
+        ensures { result ≡ trailer_bytes self.size self.processors }
+    {
+        let [s0, s1, s2, s3] = self.size.to_le_bytes();
+        [s0, s1, s2, s3, VERSION, self.processors, 0, 0]
+    }
 }

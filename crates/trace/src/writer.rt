@@ -1,13 +1,13 @@
 // Writing a trace into a lent output. The writer has numbers only; each call is lent the output.
-ghost use Rattle.std.specs.Prelude.{◌≡◌, ◌+◌, ◌*◌, ◌<◌, ◌≤◌, true, List, [], ◌∷◌, ◌++◌, length, take, is_ok, IfOk, None, Ok};
-ghost use Rattle.std.specs.Result.{result_map_both};
+ghost use Rattle.std.specs.Prelude.{◌≡◌, ◌+◌, ◌*◌, ◌<◌, ◌≤◌, true, List, [], ◌∷◌, ◌++◌, length, take, is_ok, IfOk, Ok};
+ghost use Rattle.std.specs.Result.{result_map_both, result_err};
 ghost use Rattle.trace.specs.declared.record.Record.{Record};
 ghost use Rattle.trace.specs.Traces.{trace_of};
-ghost use Rattle.trace.specs.Writing.{written, trailer_bytes, open_answer, put_refusal, put_rule, close_rule, Holds};
+ghost use Rattle.trace.specs.Writing.{written, trailer_bytes, open_answer, put_refusal, put_rule, close_rule};
 
 use crate::record::{RECORD_SIZE, Record, encode};
 use crate::trace::may_follow;
-use crate::trailer::{MOST_RECORDS, TRAILER_SIZE, trailer_bytes};
+use crate::trailer::{MOST_RECORDS, TRAILER_SIZE, Trailer, may_serve};
 use protocol::refusal::Refusal;
 
 #[derive(Drop)]
@@ -27,13 +27,15 @@ fn put_bytes(output: &mut [u8], at: usize, new: &[u8])
 }
 
 impl Writer {
+    ghost use Rattle.trace.specs.Written.{HasPut};
+
     // Refuses unlawful processors with 12, then an output without room for the trailer with 14.
     pub fn open(output: &[u8], processors: u8) -> Result<Writer, Refusal>
         ensures answer { result_map_both (λ _. tt) (λ refusal. refusal) result ≡ open_answer output.now processors }
         ensures start { IfOk result (λ w. (w.processors ≡ processors) × (w.count ≡ 0) × (w.stamp ≡ 0)) }
-        ensures holds_none { IfOk result (λ w. Holds w.processors w.count w.stamp output.now []) }
+        ensures holds_none { IfOk result (λ w. HasPut w output.now []) }
     {
-        if processors < 1 || processors > 8 {
+        if !may_serve(processors) {
             return Err(Refusal::Trailer);
         }
         if output.len() < TRAILER_SIZE {
@@ -46,19 +48,19 @@ impl Writer {
         })
     }
 
-    // Why a record is not put into an output of this length, if it is not.
-    fn refused(&self, next: &Record, long: usize) -> Option<Refusal>
-        ensures value { result ≡ put_refusal self.now.processors self.now.count self.now.stamp long next.now }
-        ensures few { result ≡ None → self.now.count < 1048576 }
-        ensures room { result ≡ None → self.now.count * 16 + 24 ≤ long }
+    // Whether a record may be put into an output of this length.
+    fn check(&self, next: &Record, long: usize) -> Result<(), Refusal>
+        ensures value { result_err result ≡ put_refusal self.now.processors self.now.count self.now.stamp long next.now }
+        ensures few { is_ok result ≡ true → self.now.count < 1048576 }
+        ensures room { is_ok result ≡ true → self.now.count * 16 + 24 ≤ long }
     {
         if !may_follow(next, self.processors, self.stamp) || self.count >= MOST_RECORDS {
-            return Some(Refusal::Record(self.count as u32));
+            return Err(Refusal::Record(self.count as u32));
         }
         if self.count * RECORD_SIZE + RECORD_SIZE + TRAILER_SIZE > long {
-            return Some(Refusal::Output);
+            return Err(Refusal::Output);
         }
-        None
+        Ok(())
     }
 
     // Refuses a record that breaks a rule with 13, then an output too short for it and the trailer with 14.
@@ -68,12 +70,9 @@ impl Writer {
         ensures stamp { self.new.stamp ≡ (put_rule self.old.processors self.old.count self.old.stamp output.old next).stamp }
         ensures output { output.new ≡ (put_rule self.old.processors self.old.count self.old.stamp output.old next).output }
         ensures processors { self.new.processors ≡ self.old.processors }
-        ensures holds_more { is_ok result ≡ true → (rs : List Record) → Holds self.old.processors self.old.count self.old.stamp output.old rs
-            → Holds self.new.processors self.new.count self.new.stamp output.new (rs ++ (next ∷ [])) }
+        ensures holds_more { is_ok result ≡ true → (rs : List Record) → HasPut self.old output.old rs → HasPut self.new output.new (rs ++ (next ∷ [])) }
     {
-        if let Some(refusal) = self.refused(&next, output.len()) {
-            return Err(refusal);
-        }
+        self.check(&next, output.len())?;
         put_bytes(output, self.count * RECORD_SIZE, &encode(next));
         self.count += 1;
         self.stamp = next.stamp;
@@ -84,14 +83,18 @@ impl Writer {
     pub fn close(self, output: &mut [u8]) -> Result<usize, Refusal>
         ensures answer { result ≡ (close_rule self.processors self.count output.old).answer }
         ensures output { output.new ≡ (close_rule self.processors self.count output.old).output }
-        ensures reads_back { (rs : List Record) → Holds self.processors self.count self.stamp output.old rs
+        ensures reads_back { (rs : List Record) → HasPut self output.old rs
             → (result ≡ Ok (self.count * 16 + 8)) × (trace_of (take (self.count * 16 + 8) output.new) ≡ Ok (record { processors = self.processors; records = rs })) }
     {
         let size = self.count * RECORD_SIZE;
         if output.len() < size + TRAILER_SIZE {
             return Err(Refusal::Output);
         }
-        put_bytes(output, size, &trailer_bytes(size as u32, self.processors));
+        let trailer = Trailer {
+            size: size as u32,
+            processors: self.processors,
+        };
+        put_bytes(output, size, &trailer.encode());
         Ok(size + TRAILER_SIZE)
     }
 }

@@ -1,21 +1,10 @@
-use Rattle.std.proofs.Common.{◌≡◌, length, get_or, sym, ap, ◌∙◌, arith, rules}
-use Rattle.trace.specs.Records.{number_at, command_for, encoded}
-use Rattle.trace.proofs.Codec.{with_command, encode_met}
+use Rattle.std.proofs.Common.{◌≡◌, ◌/◌, length, arith, rules}
+use Rattle.trace.proofs.Codec.{encode_met}
 use Rattle.trace.proofs.record.decode.Goals as goal
 
-pub returns : goal.returns
-returns c =
+pub returns-clause-back : goal.returns-clause-back
+returns-clause-back c =
     let bs = c.args.bytes.now in
-    let command = c.in_ok-command.command in
-    let p = get_or bs 4 0 in
-    let long : length bs ≡ 16 = omega arith in
-    let z6 : get_or bs 6 0 ≡ 0 = omega arith in
-    let z7 : get_or bs 7 0 ≡ 0 = omega arith in
-    let told = c.in_ok-command.ensures ∙ ap (command_for (get_or bs 5 0)) c.number_at.ensures in
-    record {
-      value = search rules;
-      back =
-          ap (λ s. encoded (with_command s p c.number_at-2.result command)) c.number_at-3.ensures
-          ∙ ap (λ a. encoded (with_command (number_at bs 0) p a command)) c.number_at-2.ensures
-          ∙ encode_met bs (λ i. let fits = c.type_inv.bytes i in omega (arith, fits)) command long z6 z7 (sym told);
-    }
+    let four : length bs / 4 ≡ 4 = search rules in
+    encode_met bs (λ i. let fits = c.type_inv.bytes i in omega (arith, fits))
+    c.from_le_bytes-2.result _ c.from_le_bytes-address.result c.in_ok-command.command (four, search rules, search rules, search rules, search rules, search rules, search rules, search rules)

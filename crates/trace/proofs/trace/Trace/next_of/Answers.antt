@@ -1,28 +1,24 @@
-use Rattle.std.proofs.Common.{◌≡◌, ◌<◌, true, false, unwrap_or, sym, ap, ◌∙◌, arith, rules}
-use Rattle.std.proofs.lemmas.Bool.Decides.{nat_tests}
-use Rattle.protocol.proofs.Finding.{lowest_hit, lowest_miss}
-use Rattle.trace.specs.Sizes.{records_in}
+use Rattle.std.proofs.Common.{◌≡◌, ℕ, ◌-◌, ◌*◌, ◌<◌, ◌==◌, Bool, true, false, [], length, drop, get_or, unwrap_or, ap, ◌∙◌, arith, rules}
+use Rattle.std.proofs.lemmas.Iterator.{first_from_Range}
+use Rattle.std.proofs.lemmas.List.{get_or-drop, get_or-take}
+use Rattle.protocol.specs.Finding.{lowest_from}
 use Rattle.trace.specs.Traces.{is_of}
+use Rattle.trace.proofs.Lowest.{lowest_found}
+use Rattle.trace.proofs.Reading.{record_at}
 use Rattle.trace.proofs.trace.Trace.next_of.Goals as goal
 
-pub returns-then-self-i : goal.returns-then-self-i
-returns-then-self-i c =
+pub returns-clause-value : goal.returns-clause-value
+returns-clause-value c =
     let bytes = c.args.self.now.records.now in
-    let i = c.loop-i.i in
-    let n = records_in bytes in
-    let here : is_of c.args.processor bytes i ≡ true = grind (arith, nat_tests) in
-    let below : i < n = omega (arith, c.loop-i-test.true, c.count-i-end.ensures) in
-    record {
-      value = ap (λ o. unwrap_or o n) (sym (lowest_hit (is_of c.args.processor bytes) i n below here)) ∙ c.loop-i.invariant;
-      later = search rules;
-      bound = search rules;
-    }
-
-pub loop-i-preserved : goal.loop-i-preserved
-loop-i-preserved c =
-    let bytes = c.args.self.now.records.now in
-    let i = c.loop-i.i in
-    let n = records_in bytes in
-    let not-here : is_of c.args.processor bytes i ≡ false = grind (arith, nat_tests) in
-    let below : i < n = omega (arith, c.loop-i-test.true, c.count-i-end.ensures) in
-    ap (λ o. unwrap_or o n) (sym (lowest_miss (is_of c.args.processor bytes) i n below not-here)) ∙ c.loop-i.invariant
+    let p = c.args.processor in
+    let chunks = c.as_chunks.result.0.now in
+    let told = c.as_chunks.ensures in
+    let seen : ℕ → Bool = λ i. get_or (get_or chunks i []) 4 0 == p in
+    let same : (i : ℕ) → i < length chunks → seen i ≡ is_of p bytes i
+    = λ i below. ap (λ x. x == p)
+    (ap (λ ys. get_or ys 4 0) (record_at bytes chunks i [] told.front told.front_len below)
+    ∙ get_or-take 16 (drop (i * 16) bytes) 4 0 (omega arith) ∙ get_or-drop (i * 16) bytes 4 0) in
+    let find = first_from_Range _ _ _ c.find.result (λ i. seen i ≡ true) (λ i. seen i ≡ false) c.find.ensures.ran (λ x q k. search rules) (λ x q k. search rules) in
+    let found = lowest_found (is_of p bytes) seen c.args.from (length chunks) same c.find.result find in
+    c.unwrap_or.ensures ∙ ap (λ o. unwrap_or o (length chunks)) found
+    ∙ ap (λ n. unwrap_or (lowest_from (is_of p bytes) c.args.from (n - c.args.from)) n) told.front_len

@@ -4,23 +4,18 @@ use Rattle.trace.specs.Writing.{written}
 use Rattle.trace.proofs.Puts.{put_done, put_follows, put_holds}
 use Rattle.trace.proofs.writer.Writer.put.Goals as goal
 
-pub returns : goal.returns
-returns c =
+pub returns-clause-output : goal.returns-clause-output
+returns-clause-output c =
+    let w = c.args.self.now in
+    let out = c.args.output.now in
+    c.put_bytes.ensures ∙ ap (written out (w.count * 16)) c.encode.ensures.value
+    ∙ ap (λ p. p.output) (put_done w.processors w.count w.stamp out c.args.next c.in_ok-check.ensures.value)
+
+pub returns-clause-holds_more : goal.returns-clause-holds_more
+returns-clause-holds_more c ok rs h =
     let w = c.args.self.now in
     let out = c.args.output.now in
     let r = c.args.next in
-    let none = c.in_default.ensures.value in
-    let done = put_done w.processors w.count w.stamp out r none in
-    let placed = c.put_bytes.ensures ∙ ap (written out (w.count * 16)) c.encode.ensures.value in
-    let fits = c.in_default.ensures.room refl in
-    record {
-      answer = ap (λ p. p.answer) done;
-      count = ap (λ p. p.count) done;
-      stamp = ap (λ p. p.stamp) done;
-      output = placed ∙ ap (λ p. p.output) done;
-      processors = refl;
-      holds_more = λ ok rs h.
-          rw placed (put_holds w.processors w.count w.stamp out r rs (encoded r) refl
-          (ap decoded (sym c.encode.ensures.value) ∙ c.encode.ensures.back)
-          (put_follows w.processors w.count w.stamp out r none) fits h);
-    }
+    rw (c.put_bytes.ensures ∙ ap (written out (w.count * 16)) c.encode.ensures.value) (put_holds w.processors w.count w.stamp out r rs (encoded r) refl
+    (ap decoded (sym c.encode.ensures.value) ∙ c.encode.ensures.back)
+    (put_follows w.processors w.count w.stamp out r c.in_ok-check.ensures.value) (c.in_ok-check.ensures.room refl) h)
