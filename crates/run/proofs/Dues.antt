@@ -1,7 +1,15 @@
 -- Which record is due: the earliest index of a processor that does not wait.
-use Rattle.std.proofs.Common.{◌≡◌, ℕ, zero, suc, ◌+◌, ◌-◌, ◌<◌, ◌≤◌, Bool, true, false, cond, not, ◌&&◌, ltb, List, length, get_or, is_some, IfSome, Some, None, Option, sym, refl, ap, ◌∙◌, inl, inr, arith}
+use Rattle.std.proofs.Common.{◌≡◌, ℕ, zero, suc, ◌+◌, ◌-◌, ◌<◌, ◌≤◌, Bool, true, false, cond, not, ◌&&◌, ltb, List, get_or, is_some, Some, None, Option, sym, refl, ap, ◌∙◌, inl, inr, arith}
 use Rattle.std.proofs.lemmas.Bool.Decides.{leb_tells, nat_tests}
-use Rattle.run.specs.Kept.{earliest_from, Earliest}
+use Rattle.run.specs.Kept.{Earliest}
+
+-- of n processors from p on, the one with the earliest index that does not wait, if it is earlier than that of the best so far
+unfoldable pub earliest_from : (ℕ → Option ℕ) → List ℕ → ℕ → ℕ → ℕ → Option ℕ → Option ℕ
+earliest_from waits next p zero earliest best = best
+earliest_from waits next p (suc n) earliest best =
+    cond (ltb (get_or next p 0) earliest && not (is_some (waits p)))
+    (earliest_from waits next (p + 1) n (get_or next p 0) (Some p))
+    (earliest_from waits next (p + 1) n earliest best)
 
 module _ (waits : ℕ → Option ℕ) (next : List ℕ) where
   pub earliest_step : (p e : ℕ) (best : Option ℕ) (test : Bool) → p < 8 → ltb (get_or next p 0) e && not (is_some (waits p)) ≡ test
@@ -63,8 +71,3 @@ module _ (waits : ℕ → Option ℕ) (next : List ℕ) where
 
   pub earliest_tells : (count : ℕ) → Earliest waits next count (earliest_from waits next 0 8 count None)
   earliest_tells count = earliest_from_lem count 8 0 count None refl refl (omega arith) (λ q h none. absurd (omega (arith, h)))
-
-  pub found_low : (count : ℕ) (r : Option ℕ) → length next ≡ 8 → Earliest waits next count r
-      → IfSome r (λ p. (p < 8) × (p < length next) × (get_or next p 0 < count))
-  found_low count None eight tells = tt
-  found_low count (Some p) eight tells = let listed = tells.0 in (listed, omega (arith, eight, listed), tells.2)

@@ -11,8 +11,8 @@ use Rattle.run.specs.Running.{Running, how_many, due, stepped, shown, left, to_g
 use Rattle.run.proofs.Falls.{idle_most}
 
 module _ (m : Measures) (records : List Record) where
-  pub going_start : (s : Running) → s.steps + to_go m records s ≤ 999999999 → s.cycles ≤ 4000 * s.steps → Going m records s s (to_go m records s)
-  going_start s few cheap = record { enough = omega arith; same_end = refl; few = few; cheap = cheap }
+  pub going_start : (s : Running) → s.steps + to_go m records s ≤ 999999999 → Going m records s s (to_go m records s)
+  going_start s few = record { enough = omega arith; same_end = refl; few = few }
 
   -- one step less is enough behind a step
   pub record Further (first s s' : Running) (fuel : ℕ) (step : Step) : Type 0 where
@@ -22,10 +22,10 @@ module _ (m : Measures) (records : List Record) where
     pub head : steps_from m records fuel s ≡ step ∷ steps_from m records rest s'
 
   one_step : (first s s' : Running) (fuel i : ℕ) (step : Step) → due m records s ≡ Some i → step ≡ shown m records s i → s' ≡ stepped m records s i
-      → Going m records first s fuel → to_go m records s' < to_go m records s → s'.cycles ≤ 4000 * s'.steps → Further first s s' fuel step
+      → Going m records first s fuel → to_go m records s' < to_go m records s → Further first s s' fuel step
   unfolding run_from steps_from stepped
-  one_step first s s' zero i step is-due value after here less cheap = let enough = here.enough in absurd (omega (arith, enough, less))
-  one_step first s s' (suc n) i step is-due value after here less cheap =
+  one_step first s s' zero i step is-due value after here less = let enough = here.enough in absurd (omega (arith, enough, less))
+  one_step first s s' (suc n) i step is-due value after here less =
       let enough = here.enough in
       let few = here.few in
       let one : s'.steps ≡ s.steps + 1 = ap (λ x. x.steps) after in
@@ -36,7 +36,6 @@ module _ (m : Measures) (records : List Record) where
           enough = omega (arith, enough, less);
           same_end = ap (run_from m records n) after ∙ ap (λ o. when_some o (λ j. run_from m records n (stepped m records s j)) s) (sym is-due) ∙ here.same_end;
           few = omega (arith, few, one, less);
-          cheap = cheap;
         };
         head = ap (λ o. when_some o (λ j. shown m records s j ∷ steps_from m records n (stepped m records s j)) []) is-due
             ∙ (λ k. sym value k ∷ steps_from m records n (sym after k));
@@ -44,15 +43,15 @@ module _ (m : Measures) (records : List Record) where
 
   module _ (first s s' : Running) (fuel : ℕ) (here : Going m records first s fuel) where
     by_due : (o : Option ℕ) (step : Step) → due m records s ≡ o → Some step ≡ option_map (shown m records s) o → s' ≡ when_some o (stepped m records s) s
-        → to_go m records s' < to_go m records s → s'.cycles ≤ 4000 * s'.steps → Further first s s' fuel step
-    by_due None step e value after less cheap = absurd (not_some value)
-    by_due (Some i) step e value after less cheap =
-        one_step first s s' fuel i step e (ap (λ o. when_some o (λ x. x) step) value) after here less cheap
+        → to_go m records s' < to_go m records s → Further first s s' fuel step
+    by_due None step e value after less = absurd (not_some value)
+    by_due (Some i) step e value after less =
+        one_step first s s' fuel i step e (ap (λ o. when_some o (λ x. x) step) value) after here less
 
     pub going_on : (step : Step) → Some step ≡ option_map (shown m records s) (due m records s)
         → s' ≡ when_some (due m records s) (stepped m records s) s → to_go m records s' < to_go m records s
-        → s'.cycles ≤ 4000 * s'.steps → Further first s s' fuel step
-    going_on step value after less cheap = by_due (due m records s) step refl value after less cheap
+        → Further first s s' fuel step
+    going_on step value after less = by_due (due m records s) step refl value after less
 
   module _ (first s : Running) (fuel : ℕ) (here : Going m records first s fuel) where
     none_due : (o : Option ℕ) → None ≡ option_map (shown m records s) o → o ≡ None
@@ -75,17 +74,24 @@ module _ (m : Measures) (records : List Record) where
     no_more_steps zero e = refl
     no_more_steps (suc n) e = rw e refl
 
-  -- what a call of the step tells of one step, by measures m' that are those of the run
-  module _ (m' : Measures) (same : m' ≡ m) (first s s' : Running) (fuel : ℕ) (here : Going m records first s fuel) where
-    abbrev after : Measures → Type 0
-    after x = s' ≡ when_some (due x records s) (stepped x records s) s
+  -- what a call of the step tells of one step, by measures and records that are those of the run
+  module _ (m' : Measures) (records' : List Record) (same : m' ≡ m) (alike : records' ≡ records) (first s s' : Running) (fuel : ℕ)
+      (here : Going m records first s fuel) where
+    abbrev shows : Option Step → Measures → List Record → Type 0
+    shows step x rs = step ≡ option_map (shown x rs s) (due x rs s)
 
-    pub goes_on : (step : Step) → Some step ≡ option_map (shown m' records s) (due m' records s) → after m'
-        → to_go m' records s' < to_go m' records s → s'.cycles ≤ 4000 * s'.steps → Further first s s' fuel step
-    goes_on step value told less cheap =
-        let Value : Measures → Type 0 = λ x. Some step ≡ option_map (shown x records s) (due x records s) in
-        let Less : Measures → Type 0 = λ x. to_go x records s' < to_go x records s in
-        going_on first s s' fuel here step (subst Value same value) (subst after same told) (subst Less same less) cheap
+    abbrev leaves : Measures → List Record → Type 0
+    leaves x rs = s' ≡ when_some (due x rs s) (stepped x rs s) s
+
+    abbrev falls : Measures → List Record → Type 0
+    falls x rs = to_go x rs s' < to_go x rs s
+
+    moved : (P : Measures → List Record → Type 0) → P m' records' → P m records
+    moved P told = subst (λ x. P x records) same (subst (P m') alike told)
+
+    pub goes_on : (step : Step) → shows (Some step) m' records' → leaves m' records' → falls m' records' → Further first s s' fuel step
+    goes_on step value told less =
+        going_on first s s' fuel here step (moved (shows (Some step)) value) (moved leaves told) (moved falls less)
 
     pub record Stopped : Type 0 where
       pub none : due m records s ≡ None
@@ -93,11 +99,10 @@ module _ (m : Measures) (records : List Record) where
       pub end : s' ≡ ran m records first
       pub no_more : steps_from m records fuel s ≡ []
 
-    pub stops : None ≡ option_map (shown m' records s) (due m' records s) → after m' → Stopped
+    pub stops : shows None m' records' → leaves m' records' → Stopped
     stops value told =
-        let Value : Measures → Type 0 = λ x. None ≡ option_map (shown x records s) (due x records s) in
-        let none = no_step first s fuel here (subst Value same value) in
-        let stays = subst after same told ∙ ap (λ o. when_some o (stepped m records s) s) none in
+        let none = no_step first s fuel here (moved (shows None) value) in
+        let stays = moved leaves told ∙ ap (λ o. when_some o (stepped m records s) s) none in
         record { none = none; stays = stays; end = stays ∙ at_end first s fuel here none; no_more = no_more_steps first s fuel here fuel none }
 
 some_many : (test : ℕ → Bool) (n from : ℕ) → how_many test from n ≤ n

@@ -1,7 +1,9 @@
 -- Each step leaves less to go.
 use Rattle.std.proofs.Common.{◌≡◌, ℕ, zero, suc, ◌+◌, ◌-◌, ◌*◌, ◌<◌, ◌≤◌, Bool, true, false, cond, not, ◌&&◌, eqb, ltb, leb, List, [], ◌∷◌, length, get_or, is_some, IfOk, Some, None, Ok, Err, Option, Result, sym, refl, ap, ◌∙◌, inl, inr, mul-suc, arith}
 use Rattle.std.proofs.lemmas.Bool.Decides.{leb_tells, nat_tests}
+use Rattle.std.specs.List.{count_by, range_with_len}
 use Rattle.std.specs.Option.{option_map}
+use Rattle.std.proofs.lemmas.List.Sums.{sum_by-cons}
 use Rattle.protocol.specs.declared.answer.Answer.{Answer}
 use Rattle.protocol.specs.declared.answer.Answer.TheVariants.{Done, Wait}
 use Rattle.protocol.specs.declared.refusal.Refusal.{Refusal}
@@ -43,13 +45,11 @@ same_many f g (suc n) from same =
     let here = same from (omega arith) in
     λ k. cond (here k) 1 0 + rest k
 
-pub many_more : (test : ℕ → Bool) (i n sofar : ℕ) (b : Bool) → i < n → test i ≡ b
-    → sofar + how_many test i (n - i) ≡ sofar + cond b 1 0 + how_many test (i + 1) (n - (i + 1))
-many_more test i n sofar b h e =
-    let more : n - i ≡ suc (n - (i + 1)) = omega (arith, h) in
-    let one : ℕ = cond b 1 0 in
-    let rest = how_many test (i + 1) (n - (i + 1)) in
-    ap (λ k. sofar + how_many test i k) more ∙ ap (λ x. sofar + (cond x 1 0 + rest)) e ∙ omega arith
+-- the numbers that pass, counted one by one
+pub counted : (test : ℕ → Bool) (n from : ℕ) → count_by test (range_with_len from n) ≡ how_many test from n
+counted test zero from = refl
+counted test (suc n) from =
+    sum_by-cons (λ y. cond (test y) 1 0) from (range_with_len (from + 1) n) ∙ ap (λ k. cond (test from) 1 0 + k) (counted test n (from + 1))
 
 module _ (u : ℕ → Bool) (i : ℕ) (is : u i ≡ true) where
   abbrev without : ℕ → Bool

@@ -2,6 +2,5 @@ pub mod Board
 pub mod Dues
 pub mod Turns
 pub mod Falls
-pub mod ToCome
 pub mod Ends
 pub mod Runs

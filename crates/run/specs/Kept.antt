@@ -1,5 +1,6 @@
 -- What a run keeps, in the words of its rule.
-use Rattle.std.specs.Prelude.{◌≡◌, ℕ, zero, suc, ◌+◌, ◌*◌, ◌<◌, ◌≤◌, Bool, true, cond, not, ◌&&◌, List, length, is_some, Some, None, Option, Result, nat_le, nat_lt, slice_index, slice_set}
+use Rattle.std.specs.Prelude.{◌≡◌, ℕ, ◌+◌, ◌*◌, ◌<◌, ◌≤◌, Bool, cond, ◌&&◌, List, length, Some, None, Option, Result, nat_le, nat_lt, slice_index, slice_set}
+use Rattle.std.specs.Option.{option_map}
 use Rattle.protocol.specs.declared.answer.Answer.{Answer}
 use Rattle.protocol.specs.declared.line.Line.{Line}
 use Rattle.protocol.specs.declared.lock.LockEntry.{LockEntry}
@@ -8,44 +9,55 @@ use Rattle.protocol.specs.declared.refusal.Refusal.{Refusal}
 use Rattle.memory.specs.Meaning.{Mem}
 use Rattle.cluster.specs.declared.cluster.Processor.{Processor}
 use Rattle.trace.specs.declared.record.Record.{Record}
-use Rattle.trace.specs.Sizes.{records_in}
-use Rattle.trace.specs.Traces.{is_of, next_of, wrong_from}
+use Rattle.trace.specs.Traces.{records_of, next_of, when_some}
+use Rattle.text.specs.declared.step.Step.{Step}
 use Rattle.run.specs.declared.run.Run.{Run}
 use Rattle.run.specs.Answered.{finishes_record}
-use Rattle.run.specs.Running.{Running, request_at, to_go, run_from, ran}
+use Rattle.run.specs.Running.{Running, how_many, request_at, due, stepped, shown, to_go, run_from, ran, started}
+
+abbrev pub records_for : Run → List Record
+records_for run = records_of run.trace.records.now
 
 -- all records of a processor before its index are finished, and no later ones
 abbrev pub unfinished_by : List Record → List ℕ → ℕ → Bool
 unfinished_by records next i = nat_lt i (length records) && nat_le (slice_index next (request_at records i).processor) i
 
-abbrev pub state_of : List Record → Run → List Processor → List Line → List LockEntry → Mem → Running
-state_of records run ps lines locks mem =
+unfoldable pub is_left : Run → ℕ → Bool
+is_left run i = unfinished_by (records_for run) run.next i
+
+-- the first record of a processor
+unfoldable pub first_of : List ℕ → ℕ → ℕ
+first_of bytes processor = next_of processor 0 bytes
+
+abbrev pub left_by : Run → ℕ
+left_by run = how_many (unfinished_by (records_for run) run.next) 0 (length (records_for run))
+
+abbrev pub state_of : Run → List Processor → List Line → List LockEntry → Mem → Running
+state_of run ps lines locks mem =
     record {
       processors = ps;
       lines = lines;
       locks = locks;
       memory = mem;
-      unfinished = unfinished_by records run.next;
+      unfinished = unfinished_by (records_for run) run.next;
       steps = run.steps;
       cycles = run.cycles;
     }
 
--- the records of a trace that was read
-pub record WasRead (processors : ℕ) (bytes : List ℕ) : Type 0 where
-  pub sound : wrong_from processors 0 0 (records_in bytes) bytes ≡ None
-  pub served : processors ≤ 8
+-- a run that has just been started
+abbrev pub AtFirst : Run → Type 0
+AtFirst run =
+    (ps : List Processor) (lines : List Line) (locks : List LockEntry) (mem : Mem)
+    → state_of run ps lines locks mem ≡ started (records_for run) ps lines locks mem
 
--- each index is that of a record of its processor, or past all records
-abbrev pub Settled : List ℕ → List ℕ → Type 0
-Settled bytes next = (p : ℕ) → p < 8 → slice_index next p < records_in bytes → is_of p bytes (slice_index next p) ≡ true
+module _ (m : Measures) (run : Run) (s : Running) where
+  -- the step that a run takes next, if it takes one
+  abbrev pub next_step : Option Step
+  next_step = option_map (shown m (records_for run) s) (due m (records_for run) s)
 
--- of n processors from p on, the one with the earliest index that does not wait, if it is earlier than that of the best so far
-unfoldable pub earliest_from : (ℕ → Option ℕ) → List ℕ → ℕ → ℕ → ℕ → Option ℕ → Option ℕ
-earliest_from waits next p zero earliest best = best
-earliest_from waits next p (suc n) earliest best =
-    cond (nat_lt (slice_index next p) earliest && not (is_some (waits p)))
-    (earliest_from waits next (p + 1) n (slice_index next p) (Some p))
-    (earliest_from waits next (p + 1) n earliest best)
+  -- what the run has then
+  abbrev pub after_step : Running
+  after_step = when_some (due m (records_for run) s) (stepped m (records_for run) s) s
 
 -- no processor that does not wait has an earlier index
 abbrev pub Earliest : (ℕ → Option ℕ) → List ℕ → ℕ → Option ℕ → Type 0
@@ -63,4 +75,3 @@ pub record Going (m : Measures) (records : List Record) (first now : Running) (f
   pub enough : to_go m records now ≤ fuel
   pub same_end : run_from m records fuel now ≡ ran m records first
   pub few : now.steps + to_go m records now ≤ 999999999
-  pub cheap : now.cycles ≤ 4000 * now.steps

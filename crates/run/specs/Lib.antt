@@ -1,6 +1,6 @@
 pub mod Answered
 pub mod Board
-pub mod Progress
+pub mod Settled
 pub mod Kept
 pub mod Running
 pub mod Listing

@@ -1,13 +1,8 @@
 // The listing of a trace: a line for each step, the total, and what is left.
-ghost use Rattle.std.specs.Prelude.{◌≡◌, ◌+◌, ◌*◌, ◌≤◌, ◌++◌, length, replicate, IfOk, None, OnOk};
-ghost use Rattle.protocol.specs.Lines.{blank_line};
-ghost use Rattle.protocol.specs.Places.{line_count, lock_count};
-ghost use Rattle.cluster.specs.Making.{all_resting, blank_entry};
-ghost use Rattle.trace.specs.Sizes.{records_in};
+ghost use Rattle.std.specs.Prelude.{◌≡◌, ◌++◌, IfOk, OnOk};
 ghost use Rattle.trace.specs.Traces.{records_of, content_of};
 ghost use Rattle.run.specs.Board.{listing_measures};
-ghost use Rattle.run.specs.Listing.{lines_of, all_lines, run_lines, listing_of};
-ghost use Rattle.run.specs.Kept.{WasRead};
+ghost use Rattle.run.specs.Listing.{lines_of, run_lines, listing_of};
 ghost use Rattle.run.specs.Running.{steps_of, summary_of, started, end_of};
 
 use crate::run::Run;
@@ -24,9 +19,9 @@ use text::lines::{put_refusal, put_step, put_summary};
 use text::step::Summary;
 use trace::trace::Trace;
 
-const MOST_INPUT: usize = 65_536;
+pub const MOST_INPUT: usize = 65_536;
 
-const MEMORY_WORDS: usize = 1_024;
+pub const MEMORY_WORDS: usize = 1_024;
 
 // A line for each step, until none is possible.
 fn put_steps<M: Memory>(
@@ -35,64 +30,24 @@ fn put_steps<M: Memory>(
     lines: &mut [Line],
     locks: &mut [LockEntry],
     memory: &mut M,
-    trace: &Trace,
+    trace: Trace,
 ) -> Result<Summary, AllocError>
-    requires { records_in trace.now.records.now ≤ 1048576 }
-    ensures summary { WasRead trace.now.processors trace.now.records.now → IfOk result (λ s. s ≡ summary_of cluster.old.geometry.measures (records_of trace.now.records.now) (end_of cluster.old.geometry.measures cluster.old.processors lines.old locks.old (M.Memory.model memory.old) (records_of trace.now.records.now))) }
-    ensures lines { WasRead trace.now.processors trace.now.records.now → OnOk result (out.new.items ≡ out.old.items ++ lines_of (steps_of cluster.old.geometry.measures (records_of trace.now.records.now) (started (records_of trace.now.records.now) cluster.old.processors lines.old locks.old (M.Memory.model memory.old)))) }
+    ensures summary { IfOk result (λ s. s ≡ summary_of cluster.old.geometry.measures (records_of trace.entry.records.now) (end_of cluster.old.geometry.measures cluster.old.processors lines.old locks.old (M.Memory.model memory.old) (records_of trace.entry.records.now))) }
+    ensures lines { OnOk result (out.new.items ≡ out.old.items ++ lines_of (steps_of cluster.old.geometry.measures (records_of trace.entry.records.now) (started (records_of trace.entry.records.now) cluster.old.processors lines.old locks.old (M.Memory.model memory.old)))) }
 {
     let mut run = Run::start(trace);
-    while let Some(step) = run.step(cluster, lines, locks, memory, trace) {
+    while let Some(step) = run.step(cluster, lines, locks, memory) {
         put_step(out, &step)?;
     }
-    Ok(run.summary(trace))
+    Ok(run.summary())
 }
 
-// The lines of a run over a cluster and its tables, and its summary.
-fn put_run_over<M: Memory>(
-    out: &mut Vec<u8>,
-    cluster: &mut Cluster,
-    lines: &mut [Line],
-    locks: &mut [LockEntry],
-    memory: &mut M,
-    trace: &Trace,
-) -> Result<(), AllocError>
-    requires { records_in trace.now.records.now ≤ 1048576 }
-    ensures { WasRead trace.now.processors trace.now.records.now → OnOk result (out.new.items ≡ out.old.items ++ all_lines cluster.old.geometry.measures (records_of trace.now.records.now) (started (records_of trace.now.records.now) cluster.old.processors lines.old locks.old (M.Memory.model memory.old))) }
-{
-    let summary = put_steps(out, cluster, lines, locks, memory, trace)?;
-    put_summary(out, &summary)?;
-    Ok(())
-}
-
-// The same over a cluster and tables that are made new.
-fn put_new_run<M: Memory>(
-    out: &mut Vec<u8>,
-    geometry: Geometry,
-    lines: &mut [Line],
-    locks: &mut [LockEntry],
-    memory: &mut M,
-    trace: &Trace,
-) -> Result<(), AllocError>
-    requires fit { (length lines.old ≡ line_count geometry.measures) × (length locks.old ≡ lock_count geometry.measures) }
-    requires few { records_in trace.now.records.now ≤ 1048576 }
-    ensures { WasRead trace.now.processors trace.now.records.now → OnOk result (out.new.items ≡ out.old.items ++ all_lines geometry.measures (records_of trace.now.records.now) (started (records_of trace.now.records.now) all_resting (replicate (length lines.old) blank_line) (replicate (length locks.old) blank_entry) (M.Memory.model memory.old))) }
-{
-    let mut cluster = Cluster::at_rest(geometry);
-    if let Err(refusal) = cluster.make_new(geometry, lines, locks) {
-        return put_refusal(out, refusal);
-    }
-    put_run_over(out, &mut cluster, lines, locks, memory, trace)?;
-    Ok(())
-}
-
-// The listing's cluster has the trace's processors.
-fn listing_geometry(processors: u8) -> Geometry
-    requires { (1 ≤ processors) × (processors ≤ 8) }
-    ensures { result.measures ≡ listing_measures processors }
+// The cluster that a trace is listed with has the trace's processors.
+pub fn listing_geometry(trace: &Trace) -> Geometry
+    ensures { result.measures ≡ listing_measures trace.now.processors }
 {
     let measures = Measures {
-        processors,
+        processors: trace.processors(),
         columns: 16,
         ways: 4,
         lock_entries: 2,
@@ -102,18 +57,24 @@ fn listing_geometry(processors: u8) -> Geometry
 }
 
 // The run of a trace over a new cluster and zero words.
-fn put_run(heap: Global, out: &mut Vec<u8>, trace: &Trace) -> Result<(), AllocError>
-    requires few { records_in trace.now.records.now ≤ 1048576 }
-    requires lawful { (1 ≤ trace.now.processors) × (trace.now.processors ≤ 8) }
-    ensures { WasRead trace.now.processors trace.now.records.now → OnOk result (out.new.items ≡ out.old.items ++ run_lines (content_of trace.now.processors trace.now.records.now)) }
+fn put_run(heap: Global, out: &mut Vec<u8>, trace: Trace) -> Result<(), AllocError>
+    ensures { OnOk result (out.new.items ≡ out.old.items ++ run_lines (content_of trace.entry.processors trace.entry.records.now)) }
 {
-    let geometry = listing_geometry(trace.processors());
+    let geometry = listing_geometry(&trace);
+    let mut cluster = Cluster::at_rest(geometry);
     let mut lines = vec![in heap; Line::BLANK; geometry.line_count()]?;
     let mut locks = vec![in heap; LockEntry::BLANK; geometry.lock_count()]?;
     let mut words = [0; MEMORY_WORDS];
     let mut memory = WordTable::new(&mut words);
-    put_new_run(out, geometry, &mut lines, &mut locks, &mut memory, trace)?;
-    Ok(())
+    let summary = put_steps(
+        out,
+        &mut cluster,
+        &mut lines,
+        &mut locks,
+        &mut memory,
+        trace,
+    )?;
+    put_summary(out, &summary)
 }
 
 // The listing of a trace. Only want of memory is an error.
@@ -126,7 +87,7 @@ pub fn list(heap: Global, input: &[u8]) -> Result<Vec<u8>, AllocError>
         return Ok(out);
     }
     match Trace::read(input) {
-        Ok(trace) => put_run(heap, &mut out, &trace)?,
+        Ok(trace) => put_run(heap, &mut out, trace)?,
         Err(refusal) => put_refusal(&mut out, refusal)?,
     }
     Ok(out)

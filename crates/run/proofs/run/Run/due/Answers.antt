@@ -1,8 +1,7 @@
 use Rattle.std.proofs.Common.{◌≡◌, ◌<◌, ◌≤◌, true, false, not, ◌&&◌, ltb, get_or, is_some, sym, ap, ◌∙◌, arith}
 use Rattle.std.proofs.lemmas.Bool.Decides.{nat_tests}
 use Rattle.cluster.specs.Waiting.{awaited_in}
-use Rattle.run.specs.Kept.{Earliest}
-use Rattle.run.proofs.Dues.{earliest_step, earliest_end, earliest_tells, found_low}
+use Rattle.run.proofs.Dues.{earliest_step, earliest_end, earliest_tells}
 use Rattle.run.proofs.run.Run.due.Goals as goal
 use Rattle.run.proofs.run.Run.due.Goals.{then-at-earliest+then-awake, else-at-earliest, else-at-earliest-via-then-at-earliest+else-awake, else-at-earliest-via-else-at-earliest}
 
@@ -37,5 +36,4 @@ returns c =
     let waits = awaited_in c.args.cluster.now.geometry.measures c.args.cluster.now.processors in
     let next = c.args.self.now.next in
     let best = sym (earliest_end waits next c.loop-p.p c.loop-p.earliest c.loop-p.best c.loop-p-test.false) ∙ c.loop-p.invariant in
-    let tells : Earliest waits next c.args.count c.loop-p.best = rw best (earliest_tells waits next c.args.count) in
-    record { value = best; found = found_low waits next c.args.count _ c.args.self.now.eight tells; tells = tells }
+    rw best (earliest_tells waits next _)
