@@ -9,7 +9,7 @@ use protocol::answer::Answer;
 use protocol::refusal::Refusal;
 use std::alloc::AllocError;
 
-// What a line shows of an answer or a refusal.
+// What a line shows of an answer or a refusal. The name is text or digits, so that each name is two bytes.
 #[derive(Clone, Copy)]
 struct ShownAnswer {
     name: [u8; 2],
@@ -82,6 +82,7 @@ fn put_answer(out: &mut Vec<u8>, shown: ShownAnswer) -> Result<(), AllocError>
     Ok(())
 }
 
+#[tactic(auto, unfolding(crate::specs::Lines::line_of))]
 pub fn put_step(out: &mut Vec<u8>, step: &Step) -> Result<(), AllocError>
     ensures { OnOk result (out.new.items ≡ out.old.items ++ line_of step.now) }
 {
@@ -103,6 +104,7 @@ fn put_stuck(out: &mut Vec<u8>, left: u32) -> Result<(), AllocError>
     Ok(())
 }
 
+#[tactic(auto, unfolding(crate::specs::Lines::summary_lines))]
 pub fn put_summary(out: &mut Vec<u8>, summary: &Summary) -> Result<(), AllocError>
     ensures { OnOk result (out.new.items ≡ out.old.items ++ summary_lines summary.now) }
 {
