@@ -19,7 +19,7 @@ pub struct Board {
 }
 
 impl Board {
-    pub fn new(heap: Global, measures: Measures) -> Result<Board, CaseError> {
+    pub(crate) fn new(heap: Global, measures: Measures) -> Result<Board, CaseError> {
         let geometry = Geometry::new(measures)?;
         let mut lines = vec![in heap; Line::BLANK; geometry.line_count()]?;
         let mut locks = vec![in heap; LockEntry::BLANK; geometry.lock_count()]?;
@@ -32,7 +32,7 @@ impl Board {
         })
     }
 
-    pub fn issue<M: Memory>(
+    pub(crate) fn issue<M: Memory>(
         &mut self,
         memory: &mut M,
         request: Request,

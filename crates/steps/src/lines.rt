@@ -113,54 +113,62 @@ pub fn put_step(
     }
 }
 
+// An entry of a table: an item of the table's line where it is in use.
+pub trait Entry {
+    fn put(&self, out: &mut Vec<u8>, processor: u64) -> Result<(), AllocError>;
+}
+
+// The processor that has the entry, what the entry is for, and its state.
+fn put_item(
+    out: &mut Vec<u8>,
+    processor: u64,
+    place: &[u8],
+    name: [u8; 2],
+) -> Result<(), AllocError> {
+    out.push(b' ')?;
+    out.extend_from_slice(&decimal::<1>(processor))?;
+    out.push(b':')?;
+    out.extend_from_slice(place)?;
+    out.push(b'=')?;
+    put_bare(out, name)
+}
+
+impl Entry for Line {
+    fn put(&self, out: &mut Vec<u8>, processor: u64) -> Result<(), AllocError> {
+        if !self.state.is_valid() {
+            return Ok(());
+        }
+        let block = decimal::<4>(u64::from(self.block));
+        put_item(out, processor, &block, state_name(self.state))
+    }
+}
+
+impl Entry for LockEntry {
+    fn put(&self, out: &mut Vec<u8>, processor: u64) -> Result<(), AllocError> {
+        let address = hexadecimal(self.address);
+        match self.state {
+            LockState::E => Ok(()),
+            LockState::L => put_item(out, processor, &address, *b"L "),
+            LockState::LW => put_item(out, processor, &address, *b"LW"),
+        }
+    }
+}
+
 // The processor that has the entry at an index of a table with so many entries for each.
 fn owner(index: usize, each: usize) -> u64 {
     index.checked_div(each).unwrap_or(0) as u64
 }
 
-fn put_owner(out: &mut Vec<u8>, processor: u64) -> Result<(), AllocError> {
-    out.push(b' ')?;
-    out.extend_from_slice(&decimal::<1>(processor))?;
-    out.push(b':')?;
-    Ok(())
-}
-
-fn put_line(out: &mut Vec<u8>, processor: u64, line: &Line) -> Result<(), AllocError> {
-    if !line.state.is_valid() {
-        return Ok(());
-    }
-    put_owner(out, processor)?;
-    out.extend_from_slice(&decimal::<4>(line.block as u64))?;
-    out.push(b'=')?;
-    put_bare(out, state_name(line.state))
-}
-
-// The lines in use, where each processor has `each` lines of the table.
-pub fn put_states(out: &mut Vec<u8>, lines: &[Line], each: usize) -> Result<(), AllocError> {
-    out.extend_from_slice(b"states")?;
-    for (i, line) in lines.iter().enumerate() {
-        put_line(out, owner(i, each), line)?;
-    }
-    put_last(out, b"")
-}
-
-fn put_lock(out: &mut Vec<u8>, processor: u64, entry: &LockEntry) -> Result<(), AllocError> {
-    let name = match entry.state {
-        LockState::E => return Ok(()),
-        LockState::L => *b"L ",
-        LockState::LW => *b"LW",
-    };
-    put_owner(out, processor)?;
-    out.extend_from_slice(&hexadecimal(entry.address))?;
-    out.push(b'=')?;
-    put_bare(out, name)
-}
-
-// The lock entries in use, where each processor has `each` entries of the table.
-pub fn put_locks(out: &mut Vec<u8>, locks: &[LockEntry], each: usize) -> Result<(), AllocError> {
-    out.extend_from_slice(b"locks")?;
-    for (i, entry) in locks.iter().enumerate() {
-        put_lock(out, owner(i, each), entry)?;
+// The line of a table: the entries in use, where each processor has `each` entries.
+pub fn put_table<T: Entry>(
+    out: &mut Vec<u8>,
+    title: &[u8],
+    table: &[T],
+    each: usize,
+) -> Result<(), AllocError> {
+    out.extend_from_slice(title)?;
+    for (i, entry) in table.iter().enumerate() {
+        entry.put(out, owner(i, each))?;
     }
     put_last(out, b"")
 }

@@ -10,7 +10,7 @@ mod lines;
 use board::Board;
 use error::CaseError;
 use input::{Case, Cases, numbers};
-use lines::{put_locks, put_states, put_step};
+use lines::{put_step, put_table};
 use memory::dead::DeadList;
 use memory::memory::Memory;
 use memory::screen::Screen;
@@ -50,12 +50,9 @@ fn put_case(heap: Global, out: &mut Vec<u8>, case: &Case) -> Result<(), CaseErro
     let measures = case.setting.measures;
     let mut board = Board::new(heap, measures)?;
     put_steps(out, &mut board, &mut memory, case.records)?;
-    put_states(
-        out,
-        &board.lines,
-        measures.columns.saturating_mul(measures.ways),
-    )?;
-    put_locks(out, &board.locks, measures.lock_entries)?;
+    let lines_each = measures.columns.saturating_mul(measures.ways);
+    put_table(out, b"states", &board.lines, lines_each)?;
+    put_table(out, b"locks", &board.locks, measures.lock_entries)?;
     Ok(())
 }
 

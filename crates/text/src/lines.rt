@@ -9,7 +9,7 @@ use protocol::answer::Answer;
 use protocol::refusal::Refusal;
 use std::alloc::AllocError;
 
-// What a line shows of an answer or a refusal. The name is text or digits, so that each name is two bytes.
+// What a line shows of an answer or a refusal, whose name is a refusal's number: two bytes either way.
 #[derive(Clone, Copy)]
 struct ShownAnswer {
     name: [u8; 2],
