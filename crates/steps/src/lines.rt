@@ -113,8 +113,8 @@ pub fn put_step(
     }
 }
 
-// An entry of a table: an item of the table's line where it is in use.
-pub trait Entry {
+// An entry of a table, which is shown in the table's line where it is in use.
+pub trait Shown {
     fn put(&self, out: &mut Vec<u8>, processor: u64) -> Result<(), AllocError>;
 }
 
@@ -133,7 +133,7 @@ fn put_item(
     put_bare(out, name)
 }
 
-impl Entry for Line {
+impl Shown for Line {
     fn put(&self, out: &mut Vec<u8>, processor: u64) -> Result<(), AllocError> {
         if !self.state.is_valid() {
             return Ok(());
@@ -143,7 +143,7 @@ impl Entry for Line {
     }
 }
 
-impl Entry for LockEntry {
+impl Shown for LockEntry {
     fn put(&self, out: &mut Vec<u8>, processor: u64) -> Result<(), AllocError> {
         let address = hexadecimal(self.address);
         match self.state {
@@ -160,7 +160,7 @@ fn owner(index: usize, each: usize) -> u64 {
 }
 
 // The line of a table: the entries in use, where each processor has `each` entries.
-pub fn put_table<T: Entry>(
+pub fn put_table<T: Shown>(
     out: &mut Vec<u8>,
     title: &[u8],
     table: &[T],

@@ -9,7 +9,7 @@ use protocol::answer::Answer;
 use protocol::refusal::Refusal;
 use std::alloc::AllocError;
 
-// What a line shows of an answer or a refusal, whose name is a refusal's number: two bytes either way.
+// What a line shows of an answer or a refusal. Its names are arrays, since a refusal's is its number in digits.
 #[derive(Clone, Copy)]
 struct ShownAnswer {
     name: [u8; 2],
