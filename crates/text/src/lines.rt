@@ -49,6 +49,7 @@ fn shown_of(answer: &Result<Answer, Refusal>) -> ShownAnswer
     }
 }
 
+// No format: one to a Vec fails with an io::Error, where these fail only by memory, and writes digits past their places.
 fn put_text(out: &mut Vec<u8>, text: &[u8], end: u8) -> Result<(), AllocError>
     ensures { OnOk result (out.new.items ≡ out.old.items ++ (text.now ++ (end ∷ []))) }
 {
