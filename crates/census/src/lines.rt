@@ -6,30 +6,28 @@ use text::digits::decimal;
 use text::lines::{put_field, put_last};
 use upkeep::drain::Drained;
 
-fn put_row(out: &mut Vec<u8>, processor: usize, row: [u32; 5]) -> Result<(), AllocError> {
+fn put_row(out: &mut Vec<u8>, processor: usize, row: &[u32; 5]) -> Result<(), AllocError> {
     put_field(out, &decimal::<1>(processor as u64))?;
-    put_field(out, &decimal::<4>(row[0] as u64))?;
-    put_field(out, &decimal::<4>(row[1] as u64))?;
-    put_field(out, &decimal::<4>(row[2] as u64))?;
-    put_field(out, &decimal::<4>(row[3] as u64))?;
-    put_last(out, &decimal::<4>(row[4] as u64))
+    for count in &row[..4] {
+        put_field(out, &decimal::<4>(u64::from(*count)))?;
+    }
+    put_last(out, &decimal::<4>(u64::from(row[4])))
 }
 
 fn put_rows(out: &mut Vec<u8>, report: &Report) -> Result<(), AllocError> {
     put_last(out, b"P EM   EC   SM   S    I")?;
-    for p in 0..8 {
-        if p < report.processors as usize {
-            put_row(out, p, report.rows[p])?;
-        }
+    let processors = usize::from(report.processors);
+    for (p, row) in report.rows.iter().enumerate().take(processors) {
+        put_row(out, p, row)?;
     }
     Ok(())
 }
 
-// The lines in EM and SM.
+// The lines in EM and SM. Tried as map and sum: the check leaves open that the sum fits.
 fn modified(rows: &[[u32; 5]; 8]) -> u64 {
     let mut n = 0;
-    for p in 0..8 {
-        n += rows[p][0] as u64 + rows[p][2] as u64;
+    for [em, _, sm, _, _] in rows {
+        n += u64::from(*em) + u64::from(*sm);
     }
     n
 }

@@ -7,6 +7,7 @@ mod report;
 
 use lines::put_report;
 use memory::word_table::WordTable;
+use parts::reading::read_all;
 use protocol::geometry::Geometry;
 use protocol::line::Line;
 use protocol::lock::LockEntry;
@@ -49,8 +50,6 @@ fn count(heap: Global, input: &[u8]) -> Result<Vec<u8>, AllocError> {
 
 fn main(rt: HostRuntime) -> io::Result<()> {
     let heap = rt.alloc();
-    let mut input = Vec::new(heap);
-    rt.stdin().take(MOST_READ).read_to_end(&mut input)?;
-    let counted = count(heap, &input)?;
-    rt.stdout().write_all(&counted)
+    let input = read_all(heap, rt.stdin().take(MOST_READ))?;
+    rt.stdout().write_all(&count(heap, &input)?)
 }

@@ -1,7 +1,9 @@
 // A case as bytes: its name, what it asks for, and the trace or the records that it is asked of.
-ghost use Rattle.std.specs.Prelude.{◌<◌, ◌≤◌, length, IfSome};
+ghost use Rattle.std.specs.Prelude.{length};
+ghost use Rattle.std.specs.Iterator.{at_most};
 
 use crate::commands::command_named;
+use parts::cases::split_counted;
 use protocol::command::Request;
 use trace::record::Record;
 
@@ -33,92 +35,96 @@ pub enum Task<'a> {
     Copy(Source<'a>),
 }
 
+#[derive(Clone, Copy)]
 pub struct Case<'a> {
     pub name: &'a [u8],
     pub task: Task<'a>,
-    pub rest: &'a [u8],
 }
 
-// The front of some bytes, and what follows it.
 #[derive(Clone, Copy)]
-struct Pieces<'a> {
-    front: &'a [u8],
-    rest: &'a [u8],
+enum Kind {
+    Read,
+    Write,
+    Copy,
+}
+
+#[derive(Clone, Copy)]
+struct UnknownKind;
+
+impl TryFrom<u8> for Kind {
+    type Error = UnknownKind;
+
+    fn try_from(letter: u8) -> Result<Kind, UnknownKind> {
+        match letter {
+            b'R' => Ok(Kind::Read),
+            b'W' => Ok(Kind::Write),
+            b'C' => Ok(Kind::Copy),
+            _ => Err(UnknownKind),
+        }
+    }
 }
 
 // What stands behind a case's name.
 #[derive(Clone, Copy)]
 struct Head {
-    kind: u8,
+    kind: Kind,
     processors: u8,
-    room: u16,
-    lent: u16,
-    length: u16,
+    room: usize,
+    lent: usize,
+    length: usize,
 }
 
-fn cut(input: &[u8], size: usize) -> Option<Pieces<'_>>
-    ensures { IfSome result (λ c. length c.rest.now ≤ length input.now) }
-{
-    if input.len() < size {
-        return None;
+impl TryFrom<[u8; HEAD_SIZE]> for Head {
+    type Error = UnknownKind;
+
+    fn try_from(bytes: [u8; HEAD_SIZE]) -> Result<Head, UnknownKind> {
+        let [kind, processors, r0, r1, l0, l1, n0, n1] = bytes;
+        Ok(Head {
+            kind: Kind::try_from(kind)?,
+            processors,
+            room: usize::from(u16::from_le_bytes([r0, r1])),
+            lent: usize::from(u16::from_le_bytes([l0, l1])),
+            length: usize::from(u16::from_le_bytes([n0, n1])),
+        })
     }
-    Some(Pieces {
-        front: &input[0..size],
-        rest: &input[size..],
-    })
 }
 
-// A byte with a length, and then so many bytes.
-fn cut_name(input: &[u8]) -> Option<Pieces<'_>>
-    ensures { IfSome result (λ c. length c.rest.now < length input.now) }
-{
-    if input.len() < 1 {
-        return None;
-    }
-    cut(&input[1..], input[0] as usize)
-}
-
-fn head_of(bytes: &[u8]) -> Option<Head> {
-    let [kind, processors, r0, r1, l0, l1, n0, n1] = bytes else {
-        return None;
-    };
-    Some(Head {
-        kind: *kind,
-        processors: *processors,
-        room: u16::from_le_bytes([*r0, *r1]),
-        lent: u16::from_le_bytes([*l0, *l1]),
-        length: u16::from_le_bytes([*n0, *n1]),
-    })
-}
-
-fn task_of(head: Head, body: &[u8]) -> Option<Task<'_>> {
-    let room = head.room as usize;
+fn task_of(head: Head, body: &[u8]) -> Task<'_> {
     match head.kind {
-        b'R' => Some(Task::Read(body)),
-        b'W' => Some(Task::Write(Session {
+        Kind::Read => Task::Read(body),
+        Kind::Write => Task::Write(Session {
             processors: head.processors,
-            room,
-            lent: head.lent as usize,
+            room: head.room,
+            lent: head.lent,
             records: body,
-        })),
-        b'C' => Some(Task::Copy(Source { trace: body, room })),
-        _ => None,
+        }),
+        Kind::Copy => Task::Copy(Source {
+            trace: body,
+            room: head.room,
+        }),
     }
 }
 
-// The first case of the input, if it is a whole one.
-pub fn split(input: &[u8]) -> Option<Case<'_>>
-    ensures { IfSome result (λ c. length c.rest.now < length input.now) }
-{
-    let name = cut_name(input)?;
-    let front = cut(name.rest, HEAD_SIZE)?;
-    let head = head_of(front.front)?;
-    let body = cut(front.rest, head.length as usize)?;
-    Some(Case {
-        name: name.front,
-        task: task_of(head, body.front)?,
-        rest: body.rest,
-    })
+// The cases of an input, as far as they are whole.
+#[derive(Drop)]
+pub struct Cases<'a>(pub &'a [u8]);
+
+impl<'a> Iterator for Cases<'a> {
+    type Item = Case<'a>;
+
+    ghost remaining = { λ s. at_most (length s.0.now) };
+
+    fn next(&mut self) -> Option<Case<'a>> {
+        let (name, rest) = split_counted(self.0, 1)?;
+        let (head, rest) = rest.split_first_chunk::<HEAD_SIZE>()?;
+        let head = Head::try_from(*head).ok()?;
+        let (body, rest) = rest.split_at_checked(head.length)?;
+        self.0 = rest;
+        Some(Case {
+            name,
+            task: task_of(head, body),
+        })
+    }
 }
 
 // The record that is to be put.

@@ -1,20 +1,19 @@
 // The lines that show records, refusals and outputs.
-use crate::commands::{name_of, word_of};
+use crate::commands::word_of;
 use protocol::refusal::Refusal;
 use std::io;
 use std::io::Write;
+use text::names::command_name;
 use trace::record::Record;
 
 pub fn show_record(out: &mut Vec<u8>, record: &Record) -> io::Result<()> {
     let stamp = record.stamp;
     let processor = record.request.processor;
-    let name = name_of(record.request.command);
     let address = record.request.address;
     let word = word_of(record.request.command);
-    writeln!(
-        out,
-        "{stamp:08X} {processor} {name} {address:08X} {word:08X}"
-    )
+    write!(out, "{stamp:08X} {processor} ")?;
+    out.write_all(&command_name(record.request.command))?;
+    writeln!(out, " {address:08X} {word:08X}")
 }
 
 pub fn show_refusal(out: &mut Vec<u8>, refusal: Refusal) -> io::Result<()> {

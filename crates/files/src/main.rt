@@ -6,11 +6,13 @@ mod commands;
 mod input;
 mod lines;
 
-use input::{Case, PUT_SIZE, Session, Source, Task, record_of, split};
+use input::{Cases, PUT_SIZE, Session, Source, Task, record_of};
 use lines::{show_close, show_copy, show_output, show_put, show_record, show_refusal};
+use parts::cases::put_heading;
+use parts::reading::read_all;
 use std::alloc::Global;
 use std::io;
-use std::io::{Read, Write};
+use std::io::Write;
 use trace::copying::copy_trace;
 use trace::trace::Trace;
 use trace::writer::Writer;
@@ -22,10 +24,8 @@ fn show_trace(out: &mut Vec<u8>, trace: &Trace) -> io::Result<()> {
     let processors = trace.processors();
     let count = trace.count();
     writeln!(out, "processors {processors} records {count}")?;
-    for i in 0..count {
-        if let Some(record) = trace.record(i) {
-            show_record(out, &record)?;
-        }
+    for record in (0..count).filter_map(|i| trace.record(i)) {
+        show_record(out, &record)?;
     }
     Ok(())
 }
@@ -44,10 +44,8 @@ fn put_all(
     output: &mut [u8],
     records: &[u8],
 ) -> io::Result<()> {
-    for bytes in records.chunks_exact(PUT_SIZE) {
-        if let Some(record) = record_of(bytes) {
-            show_put(out, writer.put(output, record))?;
-        }
+    for record in records.chunks_exact(PUT_SIZE).filter_map(record_of) {
+        show_put(out, writer.put(output, record))?;
     }
     Ok(())
 }
@@ -87,26 +85,15 @@ fn play(heap: Global, out: &mut Vec<u8>, task: Task) -> io::Result<()> {
 
 fn list_all(heap: Global, input: &[u8]) -> io::Result<Vec<u8>> {
     let mut out = Vec::new(heap);
-    let mut rest = input;
-    while let Some(case) = split(rest) {
-        let Case {
-            name,
-            task,
-            rest: after,
-        } = case;
-        out.write_all(b"== ")?;
-        out.write_all(name)?;
-        out.write_all(b"\n")?;
-        play(heap, &mut out, task)?;
-        rest = after;
+    for case in Cases(input) {
+        put_heading(&mut out, case.name)?;
+        play(heap, &mut out, case.task)?;
     }
     Ok(out)
 }
 
 fn main(rt: HostRuntime) -> io::Result<()> {
     let heap = rt.alloc();
-    let mut input = Vec::new(heap);
-    rt.stdin().read_to_end(&mut input)?;
-    let lines = list_all(heap, &input)?;
-    rt.stdout().write_all(&lines)
+    let input = read_all(heap, rt.stdin())?;
+    rt.stdout().write_all(&list_all(heap, &input)?)
 }

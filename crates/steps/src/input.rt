@@ -1,69 +1,80 @@
 // A case as bytes: name, geometry, size of memory, dead blocks and records.
-ghost use Rattle.std.specs.Prelude.{◌<◌, ◌≤◌, length, IfSome};
+ghost use Rattle.std.specs.Prelude.{length};
+ghost use Rattle.std.specs.Iterator.{at_most};
 
+use parts::cases::split_counted;
+use protocol::measures::{Costs, Measures};
 use std::alloc::{AllocError, Global};
+use trace::record::RECORD_SIZE;
 
+// What a case is played on.
+#[derive(Clone, Copy)]
+pub struct Setting {
+    pub measures: Measures,
+    pub words: usize,
+}
+
+impl From<[u8; 7]> for Setting {
+    fn from(sizes: [u8; 7]) -> Setting {
+        let [
+            processors,
+            low_columns,
+            high_columns,
+            ways,
+            lock_entries,
+            low_words,
+            high_words,
+        ] = sizes;
+        Setting {
+            measures: Measures {
+                processors,
+                columns: usize::from(u16::from_le_bytes([low_columns, high_columns])),
+                ways: usize::from(ways),
+                lock_entries: usize::from(lock_entries),
+                costs: Costs::STANDARD,
+            },
+            words: usize::from(u16::from_le_bytes([low_words, high_words])),
+        }
+    }
+}
+
+#[derive(Clone, Copy)]
 pub struct Case<'a> {
     pub name: &'a [u8],
-    pub sizes: &'a [u8],
+    pub setting: Setting,
     pub dead: &'a [u8],
     pub records: &'a [u8],
-    pub rest: &'a [u8],
 }
 
-// The front of some bytes, and what follows it.
-#[derive(Clone, Copy)]
-struct Pieces<'a> {
-    front: &'a [u8],
-    rest: &'a [u8],
-}
+// The cases of an input, as far as they are whole.
+#[derive(Drop)]
+pub struct Cases<'a>(pub &'a [u8]);
 
-fn cut(input: &[u8], size: usize) -> Option<Pieces<'_>>
-    ensures { IfSome result (λ c. length c.rest.now ≤ length input.now) }
-{
-    if input.len() < size {
-        return None;
+impl<'a> Iterator for Cases<'a> {
+    type Item = Case<'a>;
+
+    ghost remaining = { λ s. at_most (length s.0.now) };
+
+    fn next(&mut self) -> Option<Case<'a>> {
+        let (name, rest) = split_counted(self.0, 1)?;
+        let (sizes, rest) = rest.split_first_chunk::<7>()?;
+        let (dead, rest) = split_counted(rest, 2)?;
+        let (records, rest) = split_counted(rest, RECORD_SIZE as u8)?;
+        self.0 = rest;
+        Some(Case {
+            name,
+            setting: Setting::from(*sizes),
+            dead,
+            records,
+        })
     }
-    Some(Pieces {
-        front: &input[0..size],
-        rest: &input[size..],
-    })
-}
-
-// A byte with a count, and then so many items of `width` bytes.
-fn cut_items(input: &[u8], width: u8) -> Option<Pieces<'_>>
-    ensures { IfSome result (λ c. length c.rest.now < length input.now) }
-{
-    if input.len() < 1 {
-        return None;
-    }
-    cut(&input[1..], input[0] as usize * width as usize)
-}
-
-// The first case of the input, if it is a whole one.
-pub fn split(input: &[u8]) -> Option<Case<'_>>
-    ensures { IfSome result (λ c. length c.rest.now < length input.now) }
-{
-    let name = cut_items(input, 1)?;
-    let sizes = cut(name.rest, 7)?;
-    let dead = cut_items(sizes.rest, 2)?;
-    let records = cut_items(dead.rest, 16)?;
-    Some(Case {
-        name: name.front,
-        sizes: sizes.front,
-        dead: dead.front,
-        records: records.front,
-        rest: records.rest,
-    })
 }
 
 // The numbers of two bytes each.
 pub fn numbers(heap: Global, bytes: &[u8]) -> Result<Vec<u32>, AllocError> {
-    let mut out = Vec::new(heap);
-    for pair in bytes.chunks_exact(2) {
-        if let [low, high] = pair {
-            out.push(u16::from_le_bytes([*low, *high]) as u32)?;
-        }
-    }
-    Ok(out)
+    let (pairs, _) = bytes.as_chunks::<2>();
+    pairs
+        .iter()
+        .map(|pair| u32::from(u16::from_le_bytes(*pair)))
+        .collect(heap)
 }

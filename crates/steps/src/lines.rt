@@ -32,29 +32,22 @@ fn supplier_name(supplier: Option<Supplier>) -> [u8; 2] {
 }
 
 fn block_name(block: Option<u32>) -> [u8; 8] {
-    match block {
-        None => *b"--------",
-        Some(block) => hexadecimal(block),
-    }
+    block.map_or(*b"--------", hexadecimal)
 }
 
-fn flag(set: bool) -> [u8; 1] {
-    if set { *b"1" } else { *b"0" }
+fn put_flag(out: &mut Vec<u8>, set: bool) -> Result<(), AllocError> {
+    put_field(out, &decimal::<1>(u64::from(set)))
 }
 
 // A name at the end of a line or of an item, where no space fills it up.
 fn put_bare(out: &mut Vec<u8>, name: [u8; 2]) -> Result<(), AllocError> {
-    out.push(name[0])?;
-    if name[1] != b' ' {
-        out.push(name[1])?;
-    }
-    Ok(())
+    out.extend_from_slice(name.trim_ascii_end())
 }
 
 fn put_bus(out: &mut Vec<u8>, done: &Completion) -> Result<(), AllocError> {
     put_field(out, &bus_name(done.bus))?;
-    put_field(out, &flag(done.lk))?;
-    put_field(out, &flag(done.ul))
+    put_flag(out, done.lk)?;
+    put_flag(out, done.ul)
 }
 
 fn put_done(out: &mut Vec<u8>, done: &Completion) -> Result<(), AllocError> {
@@ -75,10 +68,10 @@ fn put_wait(out: &mut Vec<u8>, hit: &LockHit) -> Result<(), AllocError> {
     put_last(out, &decimal::<4>(hit.cycles as u64))
 }
 
-fn direction_name(direction: Direction) -> [u8; 1] {
+fn direction_letter(direction: Direction) -> u8 {
     match direction {
-        Direction::Read => *b"R",
-        Direction::Write => *b"W",
+        Direction::Read => b'R',
+        Direction::Write => b'W',
     }
 }
 
@@ -92,7 +85,8 @@ fn put_details(out: &mut Vec<u8>, refusal: Refusal) -> Result<(), AllocError> {
         Refusal::Memory(block, direction) => {
             out.push(b' ')?;
             put_field(out, &hexadecimal(block))?;
-            out.extend_from_slice(&direction_name(direction))
+            out.push(direction_letter(direction))?;
+            Ok(())
         }
         _ => Ok(()),
     }
@@ -119,57 +113,62 @@ pub fn put_step(
     }
 }
 
-// The processor that has the entry at an index of a table with so many entries for each.
-fn owner(index: usize, each: usize) -> u64 {
-    if each == 0 {
-        return 0;
-    }
-    (index / each) as u64
+// An entry of a table, which is shown in the table's line where it is in use.
+pub trait Shown {
+    fn put(&self, out: &mut Vec<u8>, processor: u64) -> Result<(), AllocError>;
 }
 
-fn put_owner(out: &mut Vec<u8>, processor: u64) -> Result<(), AllocError> {
+// The processor that has the entry, what the entry is for, and its state.
+fn put_item(
+    out: &mut Vec<u8>,
+    processor: u64,
+    place: &[u8],
+    name: [u8; 2],
+) -> Result<(), AllocError> {
     out.push(b' ')?;
     out.extend_from_slice(&decimal::<1>(processor))?;
     out.push(b':')?;
-    Ok(())
-}
-
-fn put_line(out: &mut Vec<u8>, processor: u64, line: &Line) -> Result<(), AllocError> {
-    if !line.state.is_valid() {
-        return Ok(());
-    }
-    put_owner(out, processor)?;
-    out.extend_from_slice(&decimal::<4>(line.block as u64))?;
-    out.push(b'=')?;
-    put_bare(out, state_name(line.state))
-}
-
-// The lines in use, where each processor has `each` lines of the table.
-pub fn put_states(out: &mut Vec<u8>, lines: &[Line], each: usize) -> Result<(), AllocError> {
-    out.extend_from_slice(b"states")?;
-    for i in 0..lines.len() {
-        put_line(out, owner(i, each), &lines[i])?;
-    }
-    put_last(out, b"")
-}
-
-fn put_lock(out: &mut Vec<u8>, processor: u64, entry: &LockEntry) -> Result<(), AllocError> {
-    let name = match entry.state {
-        LockState::E => return Ok(()),
-        LockState::L => *b"L ",
-        LockState::LW => *b"LW",
-    };
-    put_owner(out, processor)?;
-    out.extend_from_slice(&hexadecimal(entry.address))?;
+    out.extend_from_slice(place)?;
     out.push(b'=')?;
     put_bare(out, name)
 }
 
-// The lock entries in use, where each processor has `each` entries of the table.
-pub fn put_locks(out: &mut Vec<u8>, locks: &[LockEntry], each: usize) -> Result<(), AllocError> {
-    out.extend_from_slice(b"locks")?;
-    for i in 0..locks.len() {
-        put_lock(out, owner(i, each), &locks[i])?;
+impl Shown for Line {
+    fn put(&self, out: &mut Vec<u8>, processor: u64) -> Result<(), AllocError> {
+        if !self.state.is_valid() {
+            return Ok(());
+        }
+        let block = decimal::<4>(u64::from(self.block));
+        put_item(out, processor, &block, state_name(self.state))
+    }
+}
+
+impl Shown for LockEntry {
+    fn put(&self, out: &mut Vec<u8>, processor: u64) -> Result<(), AllocError> {
+        let address = hexadecimal(self.address);
+        match self.state {
+            LockState::E => Ok(()),
+            LockState::L => put_item(out, processor, &address, *b"L "),
+            LockState::LW => put_item(out, processor, &address, *b"LW"),
+        }
+    }
+}
+
+// The processor that has the entry at an index of a table with so many entries for each.
+fn owner(index: usize, each: usize) -> u64 {
+    index.checked_div(each).unwrap_or(0) as u64
+}
+
+// The line of a table: the entries in use, where each processor has `each` entries.
+pub fn put_table<T: Shown>(
+    out: &mut Vec<u8>,
+    title: &[u8],
+    table: &[T],
+    each: usize,
+) -> Result<(), AllocError> {
+    out.extend_from_slice(title)?;
+    for (i, entry) in table.iter().enumerate() {
+        entry.put(out, owner(i, each))?;
     }
     put_last(out, b"")
 }

@@ -1,27 +1,25 @@
 -- Digits written from the last to the first.
-use Rattle.std.proofs.Common.{◌≡◌, ℕ, suc, ◌+◌, ◌-◌, ◌/◌, ◌%◌, ◌<◌, ◌≤◌, List, [], ◌∷◌, ◌++◌, length, drop, set, replicate, sym, refl, ap, ◌∙◌, append_assoc, append-nil, arith}
-use lib.ListN.{length-replicate}
-use Rattle.std.proofs.lemmas.List.{drop-set, drop_all}
+use Rattle.std.proofs.Common.{◌≡◌, ℕ, suc, ◌+◌, ◌-◌, ◌/◌, ◌%◌, ◌<◌, ◌≤◌, List, [], ◌∷◌, ◌++◌, length, take, set, reverse, sym, refl, ap, ◌∙◌, append_assoc, arith}
+use Rattle.std.proofs.lemmas.List.{reverse-append, take_all, take_more_set}
 use Rattle.text.specs.Digits.{digit_of, fixed}
 
 module _ (base : ℕ) where
-  pub none_yet : (w value : ℕ) → fixed base w value ++ drop w (replicate {A = ℕ} w 48) ≡ fixed base w value
-  none_yet w value =
-      let all : length (replicate {A = ℕ} w 48) ≡ w = length-replicate w 48 in
-      ap (λ ys. fixed base w value ++ ys) (drop_all w (replicate {A = ℕ} w 48) (omega (arith, all))) ∙ append-nil (fixed base w value)
-
-  pub one_more : (i rest : ℕ) (out : List ℕ) (d : ℕ) → 0 < i → i ≤ length out → d ≡ digit_of (rest % base)
-      → fixed base (i - 1) (rest / base) ++ drop (i - 1) (set out (i - 1) d) ≡ fixed base i rest ++ drop i out
+  pub one_more : (w k rest : ℕ) (out : List ℕ) (d : ℕ) → k < w → length out ≡ w → d ≡ digit_of (rest % base)
+      → fixed base (w - (k + 1)) (rest / base) ++ reverse (take (k + 1) (set out k d)) ≡ fixed base (w - k) rest ++ reverse (take k out)
   unfolding fixed
-  one_more i rest out d some room e =
-      let k = i - 1 in
-      let back : i ≡ suc k = omega (arith, some) in
-      let next : k + 1 ≡ i = omega (arith, some) in
-      let after : drop k (set out k d) ≡ d ∷ drop i out = drop-set out k d (omega (arith, some, room)) ∙ ap (λ n. d ∷ drop n out) next in
-      ap (λ ys. fixed base k (rest / base) ++ ys) (after ∙ ap (λ x. x ∷ drop i out) e)
-      ∙ sym (append_assoc (fixed base k (rest / base)) (digit_of (rest % base) ∷ []) (drop i out))
-      ∙ ap (λ n. fixed base n rest ++ drop i out) (sym back)
+  one_more w k rest out d room long e =
+      let m = w - (k + 1) in
+      let back : w - k ≡ suc m = omega (arith, room) in
+      let next : take (k + 1) (set out k d) ≡ take k out ++ (d ∷ []) = take_more_set out k d (omega (arith, room, long)) in
+      ap (λ ys. fixed base m (rest / base) ++ reverse ys) next
+      ∙ ap (λ ys. fixed base m (rest / base) ++ ys) (reverse-append (take k out) (d ∷ []))
+      ∙ ap (λ x. fixed base m (rest / base) ++ (x ∷ reverse (take k out))) e
+      ∙ sym (append_assoc (fixed base m (rest / base)) (digit_of (rest % base) ∷ []) (reverse (take k out)))
+      ∙ ap (λ n. fixed base n rest ++ reverse (take k out)) (sym back)
 
-  pub no_more : (i rest : ℕ) (out : List ℕ) → i ≡ 0 → out ≡ fixed base i rest ++ drop i out
+  pub no_more : (w k rest : ℕ) (out : List ℕ) → w ≤ k → length out ≡ w → reverse out ≡ fixed base (w - k) rest ++ reverse (take k out)
   unfolding fixed
-  no_more i rest out e = rw e refl
+  no_more w k rest out done long =
+      let none : w - k ≡ 0 = omega (arith, done) in
+      let all : take k out ≡ out = take_all k out (omega (arith, done, long)) in
+      rw (none, all) refl

@@ -59,18 +59,5 @@ abbrev number_line : Refusal → List ℕ
 number_line e = field (codes "TRACE") ++ last_field (fixed 10 2 (number_of e))
 
 abbrev pub refusal_line : Refusal → List ℕ
-refusal_line refusal.Geometry = number_line refusal.Geometry
-refusal_line refusal.DeadList = number_line refusal.DeadList
-refusal_line refusal.TableLength = number_line refusal.TableLength
-refusal_line refusal.Processor = number_line refusal.Processor
-refusal_line refusal.Address = number_line refusal.Address
-refusal_line refusal.Waiting = number_line refusal.Waiting
-refusal_line refusal.LockHeld = number_line refusal.LockHeld
-refusal_line refusal.NoLockEntry = number_line refusal.NoLockEntry
-refusal_line refusal.NoLock = number_line refusal.NoLock
-refusal_line refusal.CopyElsewhere = number_line refusal.CopyElsewhere
-refusal_line (refusal.MachineCheck state) = number_line (refusal.MachineCheck state)
-refusal_line (refusal.Memory block way) = number_line (refusal.Memory block way)
-refusal_line refusal.Trailer = number_line refusal.Trailer
 refusal_line (refusal.Record index) = field (codes "TRACE") ++ (field (codes "13") ++ last_field (fixed 10 7 index))
-refusal_line refusal.Output = number_line refusal.Output
+refusal_line e = number_line e

@@ -2,15 +2,13 @@
 ghost use Rattle.std.specs.Prelude.{◌≡◌, ◌<◌, ◌≤◌};
 ghost use Rattle.text.specs.Digits.{digit_of, fixed};
 
+const DIGITS: [u8; 16] = *b"0123456789ABCDEF";
+
 fn digit(value: u64) -> u8
     requires { value < 16 }
     ensures { result ≡ digit_of value }
 {
-    if value < 10 {
-        b'0' + value as u8
-    } else {
-        b'A' + (value - 10) as u8
-    }
+    DIGITS[value as usize]
 }
 
 fn digits<const W: usize>(value: u64, base: u64) -> [u8; W]
@@ -19,21 +17,22 @@ fn digits<const W: usize>(value: u64, base: u64) -> [u8; W]
 {
     let mut out = [b'0'; W];
     let mut rest = value;
-    for i in (0..W).rev() {
-        out[i] = digit(rest % base);
-        rest = rest / base;
+    for place in out.iter_mut() {
+        *place = digit(rest % base);
+        rest /= base;
     }
+    out.reverse();
     out
 }
 
-// The last W decimal digits.
+// The last W decimal digits. A format such as {:07} would write more digits of a larger number.
 pub fn decimal<const W: usize>(value: u64) -> [u8; W]
     ensures { result ≡ fixed 10 W value }
 {
     digits::<W>(value, 10)
 }
 
-// The eight capital hexadecimal digits.
+// The eight capital hexadecimal digits, by the code of decimal: a format such as {:08X} would need a String first.
 pub fn hexadecimal(value: u32) -> [u8; 8]
     ensures { result ≡ fixed 16 8 value }
 {

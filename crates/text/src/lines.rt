@@ -9,7 +9,7 @@ use protocol::answer::Answer;
 use protocol::refusal::Refusal;
 use std::alloc::AllocError;
 
-// What a line shows of an answer or a refusal.
+// What a line shows of an answer or a refusal. Its names are arrays, since a refusal's is its number in digits.
 #[derive(Clone, Copy)]
 struct ShownAnswer {
     name: [u8; 2],
@@ -49,6 +49,7 @@ fn shown_of(answer: &Result<Answer, Refusal>) -> ShownAnswer
     }
 }
 
+// No format: one to a Vec fails with an io::Error, where these fail only by memory, and writes digits past their places.
 fn put_text(out: &mut Vec<u8>, text: &[u8], end: u8) -> Result<(), AllocError>
     ensures { OnOk result (out.new.items ≡ out.old.items ++ (text.now ++ (end ∷ []))) }
 {
@@ -82,6 +83,7 @@ fn put_answer(out: &mut Vec<u8>, shown: ShownAnswer) -> Result<(), AllocError>
     Ok(())
 }
 
+#[tactic(auto, unfolding(crate::specs::Lines::line_of))]
 pub fn put_step(out: &mut Vec<u8>, step: &Step) -> Result<(), AllocError>
     ensures { OnOk result (out.new.items ≡ out.old.items ++ line_of step.now) }
 {
@@ -103,6 +105,7 @@ fn put_stuck(out: &mut Vec<u8>, left: u32) -> Result<(), AllocError>
     Ok(())
 }
 
+#[tactic(auto, unfolding(crate::specs::Lines::summary_lines))]
 pub fn put_summary(out: &mut Vec<u8>, summary: &Summary) -> Result<(), AllocError>
     ensures { OnOk result (out.new.items ≡ out.old.items ++ summary_lines summary.now) }
 {

@@ -1,4 +1,4 @@
-// The names of commands and states, filled to two places.
+// The names of commands and states. Each fills two places, which an array says by its type and a &str would not.
 ghost use Rattle.std.specs.Prelude.{◌≡◌};
 ghost use Rattle.text.specs.Names.{command_named, state_named};
 

@@ -1,7 +1,8 @@
-use Rattle.std.proofs.Common.{◌≡◌, ◌++◌, length, drop}
+use Rattle.std.proofs.Common.{◌≡◌, ◌-◌, ◌++◌, length, take, reverse}
 use Rattle.text.specs.Digits.{fixed}
 use Rattle.text.proofs.digits.digits.Given as goal
 
--- the digits that are left, in front of those that are there
-abbrev pub invariant-loop-i : goal.invariant-loop-i
-invariant-loop-i g l = (length l.out ≡ g.row.W) × (fixed l.base l.i l.rest ++ drop l.i l.out ≡ fixed l.base g.row.W l.value)
+-- the digits that are left, in front of those that are there, which stand last digit first
+abbrev pub invariant-loop-place : goal.invariant-loop-place
+invariant-loop-place g l =
+    (length l.place-items ≡ g.row.W) × (fixed l.base (g.row.W - l.place-index) l.rest ++ reverse (take l.place-index l.place-items) ≡ fixed l.base g.row.W l.value)

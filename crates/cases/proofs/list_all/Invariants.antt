@@ -1,5 +1,0 @@
-use Rattle.std.proofs.Common.{length}
-use Rattle.cases.proofs.list_all.Given as goal
-
-abbrev pub decreases-loop-case : goal.decreases-loop-case
-decreases-loop-case l = length l.rest
