@@ -1,8 +1,6 @@
 -- What the indices that a run keeps say of the records that are due and unfinished.
-use Rattle.std.proofs.Common.{◌≡◌, ℕ, ◌+◌, ◌-◌, ◌*◌, ◌<◌, ◌≤◌, Bool, true, false, cond, not, ◌&&◌, eqb, ltb, leb, List, length, map, get_or, take, drop, set, is_some, Some, None, Option, unwrap_or, sym, refl, ap, ◌∙◌, inl, inr, arith}
-use Rattle.std.specs.List.{range_with_len}
+use Rattle.std.proofs.Common.{◌≡◌, ℕ, ◌+◌, ◌-◌, ◌*◌, ◌<◌, ◌≤◌, Bool, true, false, cond, not, ◌&&◌, eqb, ltb, leb, List, length, get_or, take, drop, set, is_some, Some, None, Option, unwrap_or, sym, refl, ap, ◌∙◌, inl, inr, arith}
 use Rattle.std.proofs.lemmas.List.{get_or-set_same, get_or-set_other}
-use Rattle.std.proofs.lemmas.List.FromFn.{get_or-map-range_with_len}
 use Rattle.std.proofs.lemmas.Bool.Decides.{eqb_tells, leb_tells, nat_tests}
 use Rattle.protocol.specs.declared.measures.Measures.{Measures}
 use Rattle.protocol.specs.declared.line.Line.{Line}
@@ -21,7 +19,7 @@ use Rattle.trace.proofs.Reading.{too_short, past_records}
 use Rattle.trace.proofs.Copies.{records_many}
 use Rattle.trace.proofs.Known.{known, known_processor}
 use Rattle.run.specs.declared.run.Run.{Run}
-use Rattle.run.specs.Kept.{AtFirst, first_of, unfinished_by, Earliest}
+use Rattle.run.specs.Kept.{AtFirst, unfinished_by, Earliest}
 use Rattle.run.specs.Settled.{Settled}
 use Rattle.run.specs.Running.{Running, no_record, request_at, due}
 
@@ -221,13 +219,6 @@ module _ (processors : ℕ) (bytes : List ℕ) (sound : wrong_from processors 0 
 
   pub request_there : (i : ℕ) → i < records_in bytes → None ≡ decoded (take 16 (drop (i * 16) bytes)) → ⊥
   request_there i h e = not_some (sym (e ∙ (known processors no_record bytes sound i h).given))
-
--- a run starts with the first record of each processor
-pub all_first : (bytes next : List ℕ) → next ≡ map (first_of bytes) (range_with_len 0 8)
-    → (p : ℕ) → p < 8 → get_or next p 0 ≡ next_of p 0 bytes
-unfolding first_of
-all_first bytes next e p h =
-    ap (λ xs. get_or xs p 0) e ∙ get_or-map-range_with_len (first_of bytes) 0 8 p p 0 h (omega arith)
 
 -- a run that has just been started
 module _ (run : Run) (starts : (p : ℕ) → p < 8 → get_or run.next p 0 ≡ next_of p 0 run.trace.records.now) (none : run.steps ≡ 0) (free : run.cycles ≡ 0) where

@@ -25,10 +25,6 @@ unfinished_by records next i = nat_lt i (length records) && nat_le (slice_index 
 unfoldable pub is_left : Run → ℕ → Bool
 is_left run i = unfinished_by (records_for run) run.next i
 
--- the first record of a processor
-unfoldable pub first_of : List ℕ → ℕ → ℕ
-first_of bytes processor = next_of processor 0 bytes
-
 abbrev pub left_by : Run → ℕ
 left_by run = how_many (unfinished_by (records_for run) run.next) 0 (length (records_for run))
 

@@ -1,7 +1,8 @@
 // The steps of a run: each issues the earliest record whose processor does not wait.
-ghost use Rattle.std.specs.Prelude.{◌≡◌, ℕ, ◌+◌, ◌<◌, ◌≤◌, not, is_some, OnSome, slice_index};
+ghost use Rattle.std.specs.Prelude.{◌≡◌, ℕ, ◌+◌, ◌<◌, ◌≤◌, not, length, is_some, OnSome, slice_index};
 ghost use Rattle.cluster.specs.Waiting.{awaited_in};
 ghost use Rattle.trace.specs.Sizes.{records_in};
+ghost use Rattle.trace.specs.Traces.{next_of};
 ghost use Rattle.run.specs.Answered.{cost_of, finishes_record};
 ghost use Rattle.run.specs.Kept.{AtFirst, records_for, is_left, left_by, state_of, next_step, after_step, Earliest, next_after};
 ghost use Rattle.run.specs.Running.{to_go};
@@ -39,6 +40,13 @@ fn awake(cluster: &Cluster, processor: u8) -> bool
     cluster.waits_for(processor).is_none()
 }
 
+fn first_records(trace: &Trace) -> [usize; 8]
+    ensures long { length result ≡ 8 }
+    ensures each { (p : ℕ) → p < 8 → slice_index result p ≡ next_of p 0 trace.now.records.now }
+{
+    array::from_fn(|p| trace.next_of(p as u8, 0))
+}
+
 impl<'a> Run<'a> {
     pub(crate) fn start(trace: Trace<'a>) -> Run<'a>
         ensures trace { result.trace ≡ trace.entry }
@@ -46,7 +54,7 @@ impl<'a> Run<'a> {
     {
         Run {
             trace,
-            next: array::from_fn(|p| trace.next_of(p as u8, 0)),
+            next: first_records(&trace),
             steps: 0,
             cycles: 0,
         }
@@ -130,11 +138,7 @@ impl<'a> Run<'a> {
         ensures value { result ≡ left_by self.now }
     {
         (0..self.trace.count())
-            .filter(
-                |index|
-                    ensures { result ≡ is_left self.entry.now index.now }
-                { self.unfinished(*index) },
-            )
+            .filter(|index| self.unfinished(*index))
             .count() as u32
     }
 

@@ -1,4 +1,5 @@
 use Rattle.std.proofs.Common.{◌≡◌, length, ap, ◌∙◌, sym, rules}
+use Rattle.std.proofs.iter.runs.Sources.{ranges}
 use Rattle.std.specs.List.{count_by, range_with_len}
 use Rattle.trace.specs.Sizes.{records_in}
 use Rattle.run.specs.Kept.{records_for, unfinished_by, is_left}
@@ -7,11 +8,11 @@ use Rattle.run.proofs.Falls.{counted}
 use Rattle.run.proofs.Turns.{many}
 use Rattle.run.proofs.run.Run.left.Goals as goal
 
-counted_left : goal.After-count-2 → Type 0
+abbrev counted_left : goal.After-count-2 → Type 0
 counted_left c = c.count-2.result ≡ count_by (is_left c.args.self.now) (range_with_len 0 c.count.result)
 
 all : (c : goal.After-count-2) → counted_left c
-all c = search rules
+all c = search (rules, ranges)
 
 pub returns-clause-value : goal.returns-clause-value
 unfolding is_left

@@ -7,6 +7,16 @@ use Rattle.run.specs.Running.{request_at}
 use Rattle.run.proofs.Turns.{many, low, present, request_same, request_there}
 use Rattle.run.proofs.run.Run.unfinished.Goals as goal
 
+pub bounds-self-record : goal.bounds-self-record
+bounds-self-record c =
+    let t = c.args.self.now.trace in
+    let bytes = t.records.now in
+    let i = c.args.index in
+    let inside = present bytes i c.in-Some.record c.in-Some.ensures.value in
+    let same = request_same t.processors bytes t.sound t.served.1 i c.in-Some.record inside c.in-Some.ensures.value in
+    let below = low t.processors bytes t.sound t.served.1 i inside in
+    omega (arith, below, ap (λ q. q.processor) same)
+
 pub returns-in-Some : goal.returns-in-Some
 unfolding is_left
 returns-in-Some c =
