@@ -3,31 +3,13 @@ use Rattle.std.proofs.Common.{◌≡◌, ℕ, zero, suc, ◌+◌, ◌/◌, ◌%�
 use Rattle.std.proofs.lemmas.List.{drop_more, take_all}
 use Rattle.std.proofs.lemmas.Bool.Decides.{nat_tests}
 use Rattle.protocol.specs.declared.command.Command.{Command}
-use Rattle.protocol.specs.declared.command.Command.TheVariants.{R, W, DW, RI, RP, RB, LR, UW, U}
 use Rattle.trace.specs.declared.record.Record.{Record}
 use Rattle.trace.specs.Records.{number_at, number_bytes, code_of, data_of, wordless_for, command_for, encoded}
 use Rattle.trace.proofs.Numbers.{bytes_of_number}
 
-command_back : (c : Command) → command_for (code_of c) (data_of c) ≡ Some c
-command_back R = refl
-command_back (W word) = refl
-command_back (DW word) = refl
-command_back RI = refl
-command_back RP = refl
-command_back RB = refl
-command_back LR = refl
-command_back (UW word) = refl
-command_back U = refl
-
 abbrev pub with_command : ℕ → ℕ → ℕ → Command → Record
 with_command stamp processor address command =
     record { stamp = stamp; request = record { processor = processor; command = command; address = address } }
-
-abbrev pub laid : List ℕ → ℕ → ℕ → List ℕ → List ℕ → List ℕ
-laid s processor code a w =
-    get_or s 0 0 ∷ (get_or s 1 0 ∷ (get_or s 2 0 ∷ (get_or s 3 0 ∷ (processor ∷ (code ∷ (0 ∷ (0 ∷
-    (get_or a 0 0 ∷ (get_or a 1 0 ∷ (get_or a 2 0 ∷ (get_or a 3 0 ∷
-    (get_or w 0 0 ∷ (get_or w 1 0 ∷ (get_or w 2 0 ∷ (get_or w 3 0 ∷ [])))))))))))))))
 
 wordless_code : (code : ℕ) (c : Command) → wordless_for code ≡ Some c → (code_of c ≡ code) × (data_of c ≡ 0)
 wordless_code code c e = (grind (arith, nat_tests), grind (arith, nat_tests))
@@ -59,29 +41,20 @@ module _ (bs : List ℕ) (each : (i : ℕ) → get_or bs i 0 < 256) where
       bytes_of_number (get_or bs at 0) (get_or bs (at + 1) 0) (get_or bs (at + 2) 0) (get_or bs (at + 3) 0)
       (each at) (each (at + 1)) (each (at + 2)) (each (at + 3))
 
-  abbrev met : Command → Record
-  met command = with_command (number_at bs 0) (get_or bs 4 0) (number_at bs 8) command
-
-  -- the same with what stands at the two zero bytes
-  abbrev spread : ℕ → ℕ → List ℕ
-  spread z y =
-      four_at 0 ++ (get_or bs 4 0 ∷ (get_or bs 5 0 ∷ (z ∷ (y ∷ (four_at 8 ++ four_at 12)))))
-
   -- what stands in the bytes, and the command that their code and data are
   abbrev pub Stands : ℕ → ℕ → ℕ → Command → Type 0
   Stands s p a c =
       (length bs / 4 ≡ 4) × (length bs % 4 ≡ 0) × (s ≡ number_at bs 0) × (p ≡ get_or bs 4 0) × (a ≡ number_at bs 8) × (get_or bs 6 0 ≡ 0) × (get_or bs 7 0 ≡ 0)
       × (Some c ≡ command_for (get_or bs 5 0) (number_at bs 12))
 
+  abbrev parts : ℕ → ℕ → ℕ → ℕ → ℕ → ℕ → ℕ → List ℕ
+  parts s p k z y a d = number_bytes s ++ (p ∷ (k ∷ (z ∷ (y ∷ (number_bytes a ++ number_bytes d)))))
+
   pub encode_met : (s p a : ℕ) (c : Command) → Stands s p a c → encoded (with_command s p a c) ≡ bs
   encode_met s p a c h =
       let (four, whole, es, ep, ea, z6, z7, e) = h in
       let long : length bs ≡ 16 = omega arith in
-      let code = command_code (get_or bs 5 0) (number_at bs 12) c (sym e) in
-      ap (λ x. encoded (with_command x p a c)) es ∙ ap (λ x. encoded (with_command (number_at bs 0) x a c)) ep
-      ∙ ap (λ x. encoded (with_command (number_at bs 0) (get_or bs 4 0) x c)) ea
-      ∙ ap (λ s. laid s (get_or bs 4 0) (code_of c) (number_bytes (number_at bs 8)) (number_bytes (data_of c))) (four_again 0)
-      ∙ ap (λ a. laid (four_at 0) (get_or bs 4 0) (code_of c) a (number_bytes (data_of c))) (four_again 8)
-      ∙ ap (λ w. laid (four_at 0) (get_or bs 4 0) (code_of c) (four_at 8) w) (ap number_bytes code.1 ∙ four_again 12)
-      ∙ ap (λ k. laid (four_at 0) (get_or bs 4 0) k (four_at 8) (four_at 12)) code.0
-      ∙ ap (λ z. spread z 0) (sym z6) ∙ ap (spread (get_or bs 6 0)) (sym z7) ∙ spelled_whole bs long
+      let (code, word) = command_code (get_or bs 5 0) (number_at bs 12) c (sym e) in
+      (λ j. parts (es j) (ep j) (code j) (sym z6 j) (sym z7 j) (ea j) (word j))
+      ∙ (λ j. four_again 0 j ++ (get_or bs 4 0 ∷ (get_or bs 5 0 ∷ (get_or bs 6 0 ∷ (get_or bs 7 0 ∷ (four_again 8 j ++ four_again 12 j))))))
+      ∙ spelled_whole bs long

@@ -1,25 +1,16 @@
 -- What is known of each record of a trace that was read.
-use Rattle.std.proofs.Common.{◌≡◌, ℕ, zero, suc, ◌+◌, ◌*◌, ◌<◌, Bool, true, false, cond, List, get_or, take, drop, Some, None, Option, sym, ap, ◌∙◌, arith}
+use Rattle.std.proofs.Common.{◌≡◌, ℕ, zero, suc, ◌+◌, ◌*◌, ◌<◌, true, List, get_or, take, drop, Some, None, sym, ap, ◌∙◌, arith}
 use Rattle.std.proofs.lemmas.List.{drop-drop, get_or-drop, get_or-take}
 use Rattle.std.proofs.lemmas.Bool.Decides.{nat_tests}
-use Rattle.std.specs.Option.{option_map}
-use Rattle.protocol.specs.declared.command.Command.{Command}
 use Rattle.trace.specs.declared.record.Record.{Record}
-use Rattle.trace.specs.Records.{number_at, command_for, well_formed, decoded}
+use Rattle.trace.specs.Records.{decoded}
 use Rattle.trace.specs.Sizes.{records_in}
-use Rattle.trace.specs.Traces.{follows, wrong_from, records_from, records_of, when_some}
-use Rattle.trace.proofs.Codec.{with_command}
-use Rattle.trace.proofs.Puts.{first_known, not_some}
+use Rattle.trace.specs.Traces.{follows, wrong_from, records_from, records_of}
+use Rattle.trace.proofs.Puts.{first_known}
 
 -- the fifth byte is the processor
-by_parts : (b : Bool) (o : Option Command) (stamp processor address : ℕ) (r : Record)
-    → cond b (option_map (with_command stamp processor address) o) None ≡ Some r → processor ≡ r.request.processor
-by_parts false o stamp processor address r e = absurd (not_some (sym e))
-by_parts true None stamp processor address r e = absurd (not_some (sym e))
-by_parts true (Some c) stamp processor address r e = ap (λ x. when_some x (λ q. q.request.processor) 0) e
-
 fifth : (bs : List ℕ) (r : Record) → decoded bs ≡ Some r → get_or bs 4 0 ≡ r.request.processor
-fifth bs r e = by_parts (well_formed bs) (command_for (get_or bs 5 0) (number_at bs 12)) (number_at bs 0) (get_or bs 4 0) (number_at bs 8) r e
+fifth bs r e = grind (arith, nat_tests)
 
 low : (processors stamp : ℕ) (r : Record) → follows processors stamp r ≡ true → r.request.processor < processors
 low processors stamp r e = grind (arith, nat_tests)

@@ -1,17 +1,15 @@
 -- What is read of an output into which records were put.
 use Prim.{tt}
-use Rattle.std.proofs.Common.{◌≡◌, ℕ, zero, suc, ◌+◌, ◌-◌, ◌*◌, ◌/◌, ◌%◌, ◌≤◌, Bool, true, false, cond, ◌&&◌, eqb, ltb, leb, List, [], ◌∷◌, ◌++◌, length, get_or, take, drop, Some, None, Ok, Err, Option, sym, refl, ap, ◌∙◌, arith, length-append, length-drop, take-append-drop, take-add}
+use Rattle.std.proofs.Common.{◌≡◌, ℕ, zero, suc, ◌+◌, ◌-◌, ◌*◌, ◌/◌, ◌%◌, ◌≤◌, Bool, true, false, cond, ◌&&◌, eqb, ltb, List, [], ◌∷◌, ◌++◌, length, get_or, take, drop, Some, None, Ok, Err, Option, sym, refl, ap, ◌∙◌, arith, length-append, length-drop, take-append-drop, take-add}
 use lib.Seq.{take-append-le}
 use Rattle.std.proofs.lemmas.List.{append_assoc, get_or-append-add, drop_at, drop-drop, take_at, take-take, length-take-le}
 use Rattle.std.proofs.lemmas.Bool.Decides.{nat_tests}
 use Rattle.std.proofs.lemmas.Option.{none-some}
-use Rattle.protocol.specs.declared.refusal.Refusal.TheVariants as refusal
 use Rattle.trace.specs.declared.record.Record.{Record}
 use Rattle.trace.specs.declared.trailer.Trailer.{Trailer}
 use Rattle.trace.specs.Records.{number_at, decoded, encoded}
 use Rattle.trace.specs.Sizes.{records_in}
 use Rattle.trace.specs.Traces.{follows, wrong_from, records_from, lawful, trailer_of, record_bytes, trace_of, when_some}
-use Rattle.trace.proofs.Numbers.{number_whole}
 use Rattle.trace.proofs.Reading.{wrong_front, records_front}
 use Rattle.trace.specs.Writing.{written, trailer_bytes, last_stamp, Put, put_refusal, put_rule, Holds}
 
@@ -121,13 +119,7 @@ module _ (processors count stamp : ℕ) (output : List ℕ) (r : Record) where
       (record { answer = Ok tt; count = count + 1; stamp = r.stamp; output = written output (count * 16) (encoded r) })) e
 
   pub put_follows : None ≡ put_refusal processors count stamp (length output) r → follows processors stamp r ≡ true
-  put_follows e = by_test (follows processors stamp r) refl e
-    where
-      by_test : (b : Bool) → follows processors stamp r ≡ b
-          → None ≡ cond (b && ltb count 1048576) (cond (leb (count * 16 + 24) (length output)) None (Some refusal.Output)) (Some (refusal.Record count))
-          → follows processors stamp r ≡ true
-      by_test true e h = e
-      by_test false e h = absurd (not_some (sym h))
+  put_follows e = grind (arith, nat_tests)
 
   pub put_holds : (rs : List Record) (new : List ℕ) → length new ≡ 16 → decoded new ≡ Some r → follows processors stamp r ≡ true
       → count * 16 + 24 ≤ length output → Holds processors count stamp output rs
@@ -165,7 +157,7 @@ module _ (processors count : ℕ) (front : List ℕ) (long : length front ≡ co
   at_first = let none : length whole - 8 ≡ length whole - 8 + 0 = omega arith in ap (λ e. get_or whole e 0) none ∙ at_end 0
 
   size_back : number_at whole (length whole - 8) ≡ count * 16
-  size_back = (λ j. at_first j + at_end 1 j * 256 + at_end 2 j * 65536 + at_end 3 j * 16777216) ∙ number_whole (count * 16) (omega arith)
+  size_back = (λ j. at_first j + at_end 1 j * 256 + at_end 2 j * 65536 + at_end 3 j * 16777216) ∙ omega arith
 
   abbrev trailer : Trailer
   trailer = record { size = count * 16; processors = processors }

@@ -30,6 +30,7 @@ fn command_of(code: u8, word: u32) -> Option<Command>
     }
 }
 
+// No From or TryFrom: Command and u8 are both of other crates, and Rust allows none between them here.
 fn code_of(command: Command) -> u8
     ensures { result ≡ code_of command }
 {
@@ -57,6 +58,7 @@ fn data_of(command: Command) -> u32
 }
 
 // Stamp, processor, code, two zero bytes, address, data.
+// No From, nor TryFrom for decode: `encode(next)` says more at a call, and an error could tell only that there is no record.
 pub fn encode(put: Record) -> [u8; 16]
     ensures value { result ≡ encoded put }
     ensures back { decoded result ≡ Some put }
