@@ -1,5 +1,5 @@
 -- A run comes to its end.
-use Rattle.std.proofs.Common.{◌≡◌, ℕ, zero, suc, ◌+◌, ◌*◌, ◌<◌, ◌≤◌, Bool, true, false, cond, List, [], ◌∷◌, length, Some, None, Option, sym, refl, ap, subst, ◌∙◌, mul-le-mul_right, arith}
+use Rattle.std.proofs.Common.{◌≡◌, ℕ, zero, suc, ◌+◌, ◌*◌, ◌<◌, ◌≤◌, Bool, true, false, cond, List, [], ◌∷◌, length, is_some, OnSome, Some, None, Option, sym, refl, ap, subst, ◌∙◌, mul-le-mul_right, arith}
 use Rattle.std.specs.Option.{option_map}
 use Rattle.protocol.specs.declared.measures.Measures.{Measures}
 use Rattle.trace.specs.declared.record.Record.{Record}
@@ -104,6 +104,16 @@ module _ (m : Measures) (records : List Record) where
         let none = no_step first s fuel here (moved (shows None) value) in
         let stays = moved leaves told ∙ ap (λ o. when_some o (stepped m records s) s) none in
         record { none = none; stays = stays; end = stays ∙ at_end first s fuel here none; no_more = no_more_steps first s fuel here fuel none }
+
+    -- the same, where it is only asked whether there was a step
+    pub on_some : (r : Option Step) → is_some r ≡ true → shows r m' records' → leaves m' records' → OnSome r (falls m' records')
+        → (rest : ℕ) × Going m records first s' rest
+    on_some None e value told less = let no_way : ◌≡◌ {A = ℕ} 0 1 = cc in absurd (omega (arith, no_way))
+    on_some (Some step) e value told less = let further = goes_on step value told less in (further.rest, further.going)
+
+    pub on_none : (r : Option Step) → is_some r ≡ false → shows r m' records' → leaves m' records' → Stopped
+    on_none None e value told = stops value told
+    on_none (Some step) e value told = let no_way : ◌≡◌ {A = ℕ} 0 1 = cc in absurd (omega (arith, no_way))
 
 some_many : (test : ℕ → Bool) (n from : ℕ) → how_many test from n ≤ n
 some_many test zero from = omega arith

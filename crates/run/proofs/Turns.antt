@@ -11,6 +11,7 @@ use Rattle.memory.specs.Meaning.{Mem}
 use Rattle.cluster.specs.declared.cluster.Processor.{Processor}
 use Rattle.cluster.specs.Waiting.{awaited_in}
 use Rattle.trace.specs.declared.record.Record.{Record}
+use Rattle.trace.specs.declared.trace.Trace.{Trace}
 use Rattle.trace.specs.Sizes.{records_in}
 use Rattle.trace.specs.Records.{decoded}
 use Rattle.trace.specs.Traces.{wrong_from, records_of, is_of, next_of, when_some}
@@ -19,9 +20,9 @@ use Rattle.trace.proofs.Reading.{too_short, past_records}
 use Rattle.trace.proofs.Copies.{records_many}
 use Rattle.trace.proofs.Known.{known, known_processor}
 use Rattle.run.specs.declared.run.Run.{Run}
-use Rattle.run.specs.Kept.{AtFirst, unfinished_by, Earliest}
+use Rattle.run.specs.Kept.{records_for, unfinished_by, summary_by, state_of, Earliest}
 use Rattle.run.specs.Settled.{Settled}
-use Rattle.run.specs.Running.{Running, no_record, request_at, due}
+use Rattle.run.specs.Running.{Running, how_many, no_record, request_at, due, summary_of}
 
 -- the next record of a processor
 pub record NextAt (bytes : List ℕ) (p from x : ℕ) : Type 0 where
@@ -220,17 +221,11 @@ module _ (processors : ℕ) (bytes : List ℕ) (sound : wrong_from processors 0 
   pub request_there : (i : ℕ) → i < records_in bytes → None ≡ decoded (take 16 (drop (i * 16) bytes)) → ⊥
   request_there i h e = not_some (sym (e ∙ (known processors no_record bytes sound i h).given))
 
--- a run that has just been started
-module _ (run : Run) (starts : (p : ℕ) → p < 8 → get_or run.next p 0 ≡ next_of p 0 run.trace.records.now) (none : run.steps ≡ 0) (free : run.cycles ≡ 0) where
-  pub at_first : AtFirst run
-  at_first ps lines locks mem =
-      let t = run.trace in
-      λ k. record {
-        processors = ps;
-        lines = lines;
-        locks = locks;
-        memory = mem;
-        unfinished = all_unfinished t.processors t.records.now t.sound t.served.1 run.next starts k;
-        steps = none k;
-        cycles = free k;
-      }
+pub few_records : (t : Trace) → length (records_of t.records.now) ≤ 1048576
+few_records t = omega (arith, t.few, many t.processors t.records.now t.sound t.served.1)
+
+-- what a run has come to is what its rule says of its records
+pub summed : (m : Measures) (run : Run) (rs : List Record) (ps : List Processor) (lines : List Line) (locks : List LockEntry) (mem : Mem)
+    → records_for run ≡ rs → summary_by run ≡ summary_of m rs (state_of run ps lines locks mem)
+summed m run rs ps lines locks mem alike =
+    λ k. record { steps = run.steps; cycles = run.cycles; left = how_many (unfinished_by (records_for run) run.next) 0 (length (alike k)) }

@@ -1,5 +1,5 @@
 -- What a run keeps, in the words of its rule.
-use Rattle.std.specs.Prelude.{◌≡◌, ℕ, ◌+◌, ◌*◌, ◌<◌, ◌≤◌, Bool, cond, ◌&&◌, List, length, Some, None, Option, Result, nat_le, nat_lt, slice_index, slice_set}
+use Rattle.std.specs.Prelude.{◌≡◌, ℕ, ◌+◌, ◌<◌, ◌≤◌, Bool, cond, ◌&&◌, List, length, Some, None, Option, Result, nat_le, nat_lt, slice_index, slice_set}
 use Rattle.std.specs.Option.{option_map}
 use Rattle.protocol.specs.declared.answer.Answer.{Answer}
 use Rattle.protocol.specs.declared.line.Line.{Line}
@@ -11,6 +11,7 @@ use Rattle.cluster.specs.declared.cluster.Processor.{Processor}
 use Rattle.trace.specs.declared.record.Record.{Record}
 use Rattle.trace.specs.Traces.{records_of, next_of, when_some}
 use Rattle.text.specs.declared.step.Step.{Step}
+use Rattle.text.specs.declared.step.Summary.{Summary}
 use Rattle.run.specs.declared.run.Run.{Run}
 use Rattle.run.specs.Answered.{finishes_record}
 use Rattle.run.specs.Running.{Running, how_many, request_at, due, stepped, shown, to_go, run_from, ran, started}
@@ -27,6 +28,10 @@ is_left run i = unfinished_by (records_for run) run.next i
 
 abbrev pub left_by : Run → ℕ
 left_by run = how_many (unfinished_by (records_for run) run.next) 0 (length (records_for run))
+
+-- what a run has come to
+abbrev pub summary_by : Run → Summary
+summary_by run = record { steps = run.steps; cycles = run.cycles; left = left_by run }
 
 abbrev pub state_of : Run → List Processor → List Line → List LockEntry → Mem → Running
 state_of run ps lines locks mem =

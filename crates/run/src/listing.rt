@@ -74,7 +74,8 @@ fn put_run(heap: Global, out: &mut Vec<u8>, trace: Trace) -> Result<(), AllocErr
         &mut memory,
         trace,
     )?;
-    put_summary(out, &summary)
+    put_summary(out, &summary)?;
+    Ok(())
 }
 
 // The listing of a trace. Only want of memory is an error.

@@ -4,7 +4,7 @@ ghost use Rattle.cluster.specs.Waiting.{awaited_in};
 ghost use Rattle.trace.specs.Sizes.{records_in};
 ghost use Rattle.trace.specs.Traces.{next_of};
 ghost use Rattle.run.specs.Answered.{cost_of, finishes_record};
-ghost use Rattle.run.specs.Kept.{AtFirst, records_for, is_left, left_by, state_of, next_step, after_step, Earliest, next_after};
+ghost use Rattle.run.specs.Kept.{AtFirst, records_for, is_left, left_by, summary_by, state_of, next_step, after_step, Earliest, next_after};
 ghost use Rattle.run.specs.Running.{to_go};
 
 use crate::run::Run;
@@ -144,7 +144,7 @@ impl<'a> Run<'a> {
 
     pub(crate) fn summary(&self) -> Summary
         ensures few { result.left ≤ 1048576 }
-        ensures value { result ≡ record { steps = self.now.steps; cycles = self.now.cycles; left = left_by self.now } }
+        ensures value { result ≡ summary_by self.now }
     {
         Summary {
             steps: self.steps,

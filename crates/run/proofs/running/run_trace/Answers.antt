@@ -1,6 +1,10 @@
-use Rattle.std.proofs.Common.{Ok, Err, refl, ap, ◌∙◌}
+use Rattle.std.proofs.Common.{◌≡◌, Ok, Err, sym, refl, ap, ◌∙◌}
 use Rattle.std.proofs.lemmas.Result.{err_from_is_err_and}
-use Rattle.trace.specs.Traces.{content_of}
+use Rattle.trace.specs.Traces.{records_of, content_of}
+use Rattle.run.specs.Kept.{records_for, state_of}
+use Rattle.run.specs.Running.{due, started, ran, end_of, summary_of}
+use Rattle.run.proofs.Ends.{start_few}
+use Rattle.run.proofs.Turns.{few_records, summed}
 use Rattle.run.proofs.Runs.{tables_unfit, tables_fit_lem, not_read, read_and_run, ended}
 use Rattle.run.proofs.running.run_trace.Goals as goal
 
@@ -21,15 +25,15 @@ returns-in_err-check_tables g c =
       kept = refl;
     }
 
-pub returns-in_err-trace : goal.returns-in_err-trace
-returns-in_err-trace g c =
+pub returns-in_err-read : goal.returns-in_err-read
+returns-in_err-read g c =
     let cluster = c.args.cluster.now in
     let m = cluster.geometry.measures in
     let mem = g.M.Memory.model c.args.memory.now in
     let fits = tables_fit_lem m cluster.processors c.args.lines.now c.args.locks.now mem c.args.bytes.now c.in_ok-check_tables.field-0 c.in_ok-check_tables.ensures in
     let rule = not_read m cluster.processors c.args.lines.now c.args.locks.now mem
-    c.args.bytes.now c.in_err-trace.field-0.0 fits c.in_err-trace.ensures.value in
-    let gave = err_from_is_err_and c.from_residual-in_err-trace.result c.from_residual-in_err-trace.ensures.1 in
+    c.args.bytes.now c.in_err-read.field-0.0 fits c.in_err-read.ensures.value in
+    let gave = err_from_is_err_and c.from_residual-in_err-read.result c.from_residual-in_err-read.ensures.1 in
     record {
       answer = gave.1 ∙ ap Err gave.2 ∙ ap (λ x. x.answer) rule;
       processors = ap (λ x. x.processors) rule;
@@ -41,6 +45,17 @@ returns-in_err-trace g c =
       kept = refl;
     }
 
+pub finish-requires : goal.finish-requires
+finish-requires g c =
+    let run = c.start-run.result in
+    let cluster = c.args.cluster.now in
+    let lines = c.args.lines.now in
+    let locks = c.args.locks.now in
+    let mem = g.M.Memory.model c.args.memory.now in
+    let none = ap (λ s. s.steps) (c.start-run.ensures.first cluster.processors lines locks mem) in
+    start_few cluster.geometry.measures (records_for run) (state_of run cluster.processors lines locks mem) cluster.geometry.few_processors
+    (few_records run.trace) none
+
 pub returns : goal.returns
 returns g c =
     let cluster = c.args.cluster.now in
@@ -50,19 +65,30 @@ returns g c =
     let locks = c.args.locks.now in
     let mem = g.M.Memory.model c.args.memory.now in
     let bytes = c.args.bytes.now in
-    let t = c.in_ok-trace.trace in
+    let t = c.in_ok-read.field-0 in
     let content = content_of t.processors t.records.now in
+    let recs = content.records in
     let fits = tables_fit_lem m ps lines locks mem bytes c.in_ok-check_tables.field-0 c.in_ok-check_tables.ensures in
-    let value = c.in_ok-trace.ensures.value in
+    let value = c.in_ok-read.ensures.value in
     let rule = read_and_run m ps lines locks mem bytes content fits value in
-    let told = c.run_read.ensures in
+    let run = c.start-run.result in
+    let told = c.start-run.ensures in
+    let alike : records_for run ≡ recs = ap (λ x. records_of x.records.now) told.trace in
+    let start = told.first ps lines locks mem ∙ ap (λ rs. started rs ps lines locks mem) alike in
+    let last = c.finish.new in
+    let after = g.M.Memory.model last.memory in
+    let done = c.finish.ensures in
+    let s' = state_of last.self last.cluster.processors last.lines last.locks after in
+    let end : s' ≡ end_of m ps lines locks mem recs = done.after ∙ (λ k. ran m (alike k) (start k)) in
+    let kept : records_for last.self ≡ recs = ap (λ x. records_of x.records.now) (done.trace ∙ told.trace) in
+    let summary = c.summary.ensures.value ∙ summed m last.self recs last.cluster.processors last.lines last.locks after kept ∙ ap (summary_of m recs) end in
     record {
-      answer = ap Ok told.answer ∙ ap (λ x. x.answer) rule;
-      processors = told.processors ∙ ap (λ x. x.processors) rule;
-      lines = told.lines ∙ ap (λ x. x.lines) rule;
-      locks = told.locks ∙ ap (λ x. x.locks) rule;
-      memory = told.memory ∙ ap (λ x. x.memory) rule;
-      ended = ended m ps lines locks mem bytes content value told.ended;
-      geometry = told.geometry;
-      kept = told.kept;
+      answer = ap Ok summary ∙ ap (λ x. x.answer) rule;
+      processors = ap (λ x. x.processors) end ∙ ap (λ x. x.processors) rule;
+      lines = ap (λ x. x.lines) end ∙ ap (λ x. x.lines) rule;
+      locks = ap (λ x. x.locks) end ∙ ap (λ x. x.locks) rule;
+      memory = ap (λ x. x.memory) end ∙ ap (λ x. x.memory) rule;
+      ended = ended m ps lines locks mem bytes content value (sym (λ k. due m (alike k) (end k)) ∙ done.ended);
+      geometry = done.geometry;
+      kept = done.kept;
     }

@@ -1,5 +1,4 @@
-use Rattle.std.proofs.Common.{refl}
-use Rattle.run.proofs.Turns.{at_first, settled_start}
+use Rattle.run.proofs.Turns.{all_unfinished, settled_start}
 use Rattle.run.proofs.run.Run.start.Goals as goal
 
 pub invariant_of-result-clause-settled : goal.invariant_of-result-clause-settled
@@ -8,4 +7,7 @@ invariant_of-result-clause-settled c =
     settled_start t.processors t.records.now t.sound t.served.1 _ c.first_records.ensures.each
 
 pub returns-clause-first : goal.returns-clause-first
-returns-clause-first c = at_first _ c.first_records.ensures.each refl refl
+returns-clause-first c ps lines locks mem =
+    let t = c.args.trace in
+    let all = all_unfinished t.processors t.records.now t.sound t.served.1 _ c.first_records.ensures.each in
+    λ k. record { processors = ps; lines = lines; locks = locks; memory = mem; unfinished = all k; steps = 0; cycles = 0 }

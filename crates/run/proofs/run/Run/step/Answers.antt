@@ -1,13 +1,11 @@
-use Rattle.std.proofs.Common.{◌≡◌, ◌+◌, ◌<◌, not, ◌&&◌, eqb, get_or, Some, None, refl, ap, ◌∙◌, rules}
+use Rattle.std.proofs.Common.{◌≡◌, ◌+◌, not, ◌&&◌, eqb, get_or, Some, None, refl, ap, ◌∙◌}
 use Rattle.cluster.specs.Rule.{command_rule}
-use Rattle.cluster.specs.Waiting.{awaited_in}
-use Rattle.trace.specs.Sizes.{records_in}
 use Rattle.trace.specs.Traces.{records_of}
 use Rattle.run.specs.Answered.{cost_of, finishes_record}
-use Rattle.run.specs.Kept.{records_for, state_of, unfinished_by, Earliest}
+use Rattle.run.specs.Kept.{records_for, state_of, unfinished_by}
 use Rattle.run.specs.Running.{request_at, due}
 use Rattle.run.proofs.Turns.{due_none, due_some, request_same, request_there, unfinished_after}
-use Rattle.run.proofs.Falls.{no_such_processor, step_falls, step_after, shown_due, cost_low}
+use Rattle.run.proofs.Falls.{no_such_processor, step_falls, step_after, shown_due}
 use Rattle.run.proofs.run.Run.step.Goals as goal
 
 pub returns-in_err-processor : goal.returns-in_err-processor
