@@ -9,18 +9,16 @@ use lines::put_report;
 use memory::word_table::WordTable;
 use parts::reading::read_all;
 use protocol::geometry::Geometry;
-use protocol::line::Line;
-use protocol::lock::LockEntry;
 use report::{geometry_of, take_census};
+use run::board::Board;
+use run::listing::{MEMORY_WORDS, MOST_INPUT};
 use std::alloc::{AllocError, Global};
 use std::io;
 use std::io::{Read, Write};
 use text::lines::put_refusal;
 
 // One byte more than the program takes, so that a longer trace is seen to be one.
-const MOST_READ: u64 = 65_537;
-
-const MEMORY_WORDS: usize = 1_024;
+const MOST_READ: u64 = MOST_INPUT as u64 + 1;
 
 // The census of a run over a new cluster and zero words.
 fn put_census(
@@ -29,11 +27,10 @@ fn put_census(
     geometry: Geometry,
     input: &[u8],
 ) -> Result<(), AllocError> {
-    let mut lines = vec![in heap; Line::BLANK; geometry.line_count()]?;
-    let mut locks = vec![in heap; LockEntry::BLANK; geometry.lock_count()]?;
+    let mut board = Board::new(heap, geometry)?;
     let mut words = [0; MEMORY_WORDS];
     let mut memory = WordTable::new(&mut words);
-    match take_census(geometry, &mut lines, &mut locks, &mut memory, input) {
+    match take_census(&mut board, &mut memory, input) {
         Ok(report) => put_report(out, &report),
         Err(refusal) => put_refusal(out, refusal),
     }

@@ -1,17 +1,13 @@
 // What is counted after a run, and what a drain then writes.
-use cluster::cluster::Cluster;
 use memory::memory::Memory;
 use protocol::geometry::Geometry;
-use protocol::line::Line;
-use protocol::lock::LockEntry;
-use protocol::measures::{Costs, Measures};
 use protocol::refusal::Refusal;
+use run::board::Board;
+use run::listing::{MOST_INPUT, listing_geometry};
 use run::running::run_trace;
 use trace::trace::Trace;
 use upkeep::census::census;
 use upkeep::drain::{Drained, drain};
-
-const MOST_INPUT: usize = 65_536;
 
 #[derive(Clone, Copy)]
 pub struct Report {
@@ -20,37 +16,32 @@ pub struct Report {
     pub drained: Result<Drained, Refusal>,
 }
 
-// The geometry of a listing: it has the trace's processors.
+// The geometry of the cluster that the trace is listed with.
 pub fn geometry_of(input: &[u8]) -> Result<Geometry, Refusal> {
     if input.len() > MOST_INPUT {
         return Err(Refusal::Trailer);
     }
-    let trace = Trace::read(input)?;
-    Geometry::new(Measures {
-        processors: trace.processors(),
-        columns: 16,
-        ways: 4,
-        lock_entries: 2,
-        costs: Costs::STANDARD,
-    })
+    Ok(listing_geometry(&Trace::read(input)?))
 }
 
-// Runs the trace on a new cluster, counts its lines and drains them.
+// Runs the trace on a new board, counts its lines and drains them.
 pub fn take_census<M: Memory>(
-    geometry: Geometry,
-    lines: &mut [Line],
-    locks: &mut [LockEntry],
+    board: &mut Board,
     memory: &mut M,
     input: &[u8],
 ) -> Result<Report, Refusal> {
-    let mut cluster = Cluster::at_rest(geometry);
-    cluster.make_new(geometry, lines, locks)?;
-    run_trace(&mut cluster, lines, locks, memory, input)?;
+    run_trace(
+        &mut board.cluster,
+        &mut board.lines,
+        &mut board.locks,
+        memory,
+        input,
+    )?;
     let mut rows = [[0; 5]; 8];
-    census(&cluster, lines, &mut rows)?;
+    census(&board.cluster, &board.lines, &mut rows)?;
     Ok(Report {
-        processors: geometry.processors(),
+        processors: board.cluster.geometry().processors(),
         rows,
-        drained: drain(&cluster, lines, memory),
+        drained: drain(&board.cluster, &mut board.lines, memory),
     })
 }

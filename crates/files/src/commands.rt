@@ -1,4 +1,4 @@
-// Commands by name, and the word of a command.
+// Commands by name.
 use protocol::command::Command;
 use text::names::command_name;
 
@@ -17,12 +17,4 @@ pub fn command_named(name: [u8; 2], word: u32) -> Option<Command> {
     ]
     .into_iter()
     .find(|command| command_name(*command) == name)
-}
-
-// The word that a command writes; 0 for the others.
-pub fn word_of(command: Command) -> u32 {
-    match command {
-        Command::W(word) | Command::DW(word) | Command::UW(word) => word,
-        _ => 0,
-    }
 }

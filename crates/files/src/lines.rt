@@ -1,5 +1,4 @@
 // The lines that show records, refusals and outputs.
-use crate::commands::word_of;
 use protocol::refusal::Refusal;
 use std::io;
 use std::io::Write;
@@ -10,7 +9,7 @@ pub fn show_record(out: &mut Vec<u8>, record: &Record) -> io::Result<()> {
     let stamp = record.stamp;
     let processor = record.request.processor;
     let address = record.request.address;
-    let word = word_of(record.request.command);
+    let word = record.request.command.written().unwrap_or(0);
     write!(out, "{stamp:08X} {processor} ")?;
     out.write_all(&command_name(record.request.command))?;
     writeln!(out, " {address:08X} {word:08X}")

@@ -24,7 +24,7 @@ fn show_trace(out: &mut Vec<u8>, trace: &Trace) -> io::Result<()> {
     let processors = trace.processors();
     let count = trace.count();
     writeln!(out, "processors {processors} records {count}")?;
-    for record in (0..count).filter_map(|i| trace.record(i)) {
+    for record in trace.records() {
         show_record(out, &record)?;
     }
     Ok(())

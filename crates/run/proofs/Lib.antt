@@ -1,4 +1,4 @@
-pub mod Board
+pub mod Measured
 pub mod Dues
 pub mod Turns
 pub mod Falls

@@ -1,6 +1,7 @@
 // Runs of a trace over a cluster, and their listings.
 #![tactic(auto)]
 
+pub mod board;
 pub mod listing;
 pub mod run;
 pub mod running;

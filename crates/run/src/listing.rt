@@ -5,6 +5,7 @@ ghost use Rattle.run.specs.Board.{listing_measures};
 ghost use Rattle.run.specs.Listing.{lines_of, run_lines, listing_of};
 ghost use Rattle.run.specs.Running.{steps_of, summary_of, started, end_of};
 
+use crate::board::Board;
 use crate::run::Run;
 use cluster::cluster::Cluster;
 use memory::memory::Memory;
@@ -60,17 +61,14 @@ pub fn listing_geometry(trace: &Trace) -> Geometry
 fn put_run(heap: Global, out: &mut Vec<u8>, trace: Trace) -> Result<(), AllocError>
     ensures { OnOk result (out.new.items ≡ out.old.items ++ run_lines (content_of trace.entry.processors trace.entry.records.now)) }
 {
-    let geometry = listing_geometry(&trace);
-    let mut cluster = Cluster::at_rest(geometry);
-    let mut lines = vec![in heap; Line::BLANK; geometry.line_count()]?;
-    let mut locks = vec![in heap; LockEntry::BLANK; geometry.lock_count()]?;
+    let mut board = Board::new(heap, listing_geometry(&trace))?;
     let mut words = [0; MEMORY_WORDS];
     let mut memory = WordTable::new(&mut words);
     let summary = put_steps(
         out,
-        &mut cluster,
-        &mut lines,
-        &mut locks,
+        &mut board.cluster,
+        &mut board.lines,
+        &mut board.locks,
         &mut memory,
         trace,
     )?;

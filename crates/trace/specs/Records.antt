@@ -1,8 +1,9 @@
 -- A record and its sixteen bytes.
 use Rattle.std.specs.Prelude.{◌≡◌, ℕ, ◌+◌, ◌*◌, ◌/◌, ◌%◌, Bool, cond, ◌&&◌, List, [], ◌∷◌, ◌++◌, length, take, Some, None, Option, ◌==◌, slice_index}
-use Rattle.std.specs.Option.{option_map}
+use Rattle.std.specs.Option.{option_map, unwrap_or}
 use Rattle.protocol.specs.declared.command.Command.{Command}
 use Rattle.protocol.specs.declared.command.Command.TheVariants.{R, W, DW, RI, RP, RB, LR, UW, U}
+use Rattle.protocol.specs.Acting.{written_by}
 use Rattle.trace.specs.declared.record.Record.{Record}
 
 -- four bytes, the lowest first
@@ -26,15 +27,7 @@ code_of U = 8
 
 -- the word that a command writes; 0 for the others
 abbrev pub data_of : Command → ℕ
-data_of R = 0
-data_of (W word) = word
-data_of (DW word) = word
-data_of RI = 0
-data_of RP = 0
-data_of RB = 0
-data_of LR = 0
-data_of (UW word) = word
-data_of U = 0
+data_of command = unwrap_or (written_by command) 0
 
 abbrev pub wordless_for : ℕ → Option Command
 wordless_for code =

@@ -51,10 +51,7 @@ fn code_of(command: Command) -> u8
 fn data_of(command: Command) -> u32
     ensures { result ≡ data_of command }
 {
-    match command {
-        Command::W(word) | Command::DW(word) | Command::UW(word) => word,
-        _ => 0,
-    }
+    command.written().unwrap_or(0)
 }
 
 // Stamp, processor, code, two zero bytes, address, data.

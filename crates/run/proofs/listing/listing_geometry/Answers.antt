@@ -1,6 +1,6 @@
 use Rattle.std.proofs.Common.{◌≤◌, arith}
 use Rattle.run.specs.Board.{listing_measures}
-use Rattle.run.proofs.Board.{geometry_made, listing_lawful}
+use Rattle.run.proofs.Measured.{geometry_made, listing_lawful}
 use Rattle.run.proofs.listing.listing_geometry.Goals as goal
 
 pub unwrap-requires : goal.unwrap-requires

@@ -1,4 +1,4 @@
-use Rattle.std.proofs.Common.{◌≡◌, ◌++◌, replicate, vec_items, ap, ◌∙◌, rules}
+use Rattle.std.proofs.Common.{◌≡◌, ◌++◌, replicate, vec_items, ap, ◌∙◌}
 use Rattle.protocol.specs.Lines.{blank_line}
 use Rattle.protocol.specs.Places.{line_count, lock_count}
 use Rattle.memory.specs.Words.{table_of}
@@ -17,18 +17,16 @@ returns c =
     let t = c.args.trace in
     let recs = records_of t.records.now in
     let out = vec_items c.args.out.now in
-    let cluster = c.at_rest-cluster.result in
-    let m = cluster.geometry.measures in
-    let lines = c.deref_mut.result.now in
-    let locks = c.deref_mut-2.result.now in
+    let board = c.in_ok-board.board in
+    let new = c.in_ok-board.ensures in
+    let m = board.cluster.geometry.measures in
     let words = c.new-memory.result.words.now in
-    let measured : m ≡ listing_measures t.processors = ap (λ x. x.measures) c.at_rest-cluster.ensures.geometry ∙ c.listing_geometry-geometry.ensures in
-    let blank-lines : lines ≡ replicate (line_count m) blank_line = search rules in
-    let blank-locks : locks ≡ replicate (lock_count m) blank_entry = search rules in
+    let measured : m ≡ listing_measures t.processors = ap (λ x. x.measures) new.geometry ∙ c.listing_geometry.ensures in
+    let same : c.listing_geometry.result.measures ≡ listing_measures t.processors = c.listing_geometry.ensures in
     let zeros : words ≡ replicate 1024 0 = c.new-memory.ensures.words in
     let steps = c.in_ok-summary.ensures in
-    behind out (lines_of (steps_of m recs (started recs cluster.processors lines locks (table_of words)))) _ steps.lines
+    behind out (lines_of (steps_of m recs (started recs board.cluster.processors c.deref_mut.result.now c.deref_mut-2.result.now (table_of words)))) _ steps.lines
     (c.in_ok-put_summary.ensures ∙ ap (λ x. vec_items c.put_steps.new.out ++ summary_lines x) steps.summary)
-    ∙ (λ k. out ++ all_lines (measured k) recs (started recs (c.at_rest-cluster.ensures.processors k)
-    ((blank-lines ∙ ap (λ x. replicate (line_count x) blank_line) measured) k)
-    ((blank-locks ∙ ap (λ x. replicate (lock_count x) blank_entry) measured) k) (table_of (zeros k))))
+    ∙ (λ k. out ++ all_lines (measured k) recs (started recs (new.processors k)
+    ((c.deref_mut.ensures.value ∙ new.blank_lines ∙ ap (λ x. replicate (line_count x) blank_line) same) k)
+    ((c.deref_mut-2.ensures.value ∙ new.blank_locks ∙ ap (λ x. replicate (lock_count x) blank_entry) same) k) (table_of (zeros k))))

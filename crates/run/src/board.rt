@@ -1,0 +1,28 @@
+// A new cluster and tables of its own.
+ghost use Rattle.std.specs.Prelude.{IfOk};
+ghost use Rattle.run.specs.Board.{IsNew};
+
+use cluster::cluster::Cluster;
+use protocol::geometry::Geometry;
+use protocol::line::Line;
+use protocol::lock::LockEntry;
+use std::alloc::{AllocError, Global};
+
+#[derive(Drop)]
+pub struct Board {
+    pub cluster: Cluster,
+    pub lines: Vec<Line>,
+    pub locks: Vec<LockEntry>,
+}
+
+impl Board {
+    pub fn new(heap: Global, geometry: Geometry) -> Result<Board, AllocError>
+        ensures { IfOk result (λ b. IsNew geometry b.cluster b.lines.items b.locks.items) }
+    {
+        Ok(Board {
+            cluster: Cluster::at_rest(geometry),
+            lines: vec![in heap; Line::BLANK; geometry.line_count()]?,
+            locks: vec![in heap; LockEntry::BLANK; geometry.lock_count()]?,
+        })
+    }
+}
