@@ -1,9 +1,9 @@
 // Where the caches have a block.
 ghost use Rattle.std.specs.Prelude.{◌≡◌, ◌<◌, length, IfSome};
-ghost use Rattle.protocol.specs.Places.{line_count};
 ghost use Rattle.cluster.specs.Copies.{line_of, line_at, supplier_of};
 
 use crate::cluster::Cluster;
+use crate::view::View;
 use protocol::directory::{Directory, Entry, Keys};
 use protocol::line::Line;
 
@@ -24,20 +24,21 @@ impl Cluster {
         let window = self.geometry.window(processor, block);
         Directory::new(lines).find(window, Keys::only(block))
     }
+}
 
+impl<'a> View<'a> {
     // The lowest processor but the asking one that has the block.
-    pub(crate) fn supplier(&self, lines: &[Line], asking: u8, block: u32) -> Option<u8>
-        requires { length lines.now ≡ line_count self.now.geometry.measures }
-        ensures { result ≡ supplier_of self.now.geometry.measures lines.now asking block }
+    pub(crate) fn supplier(&self, asking: u8, block: u32) -> Option<u8>
+        ensures { result ≡ supplier_of self.now.cluster.now.geometry.measures self.now.lines.now asking block }
     {
         let mut holder = None;
-        'caches: for p in 0..self.geometry.processors() {
+        'caches: for p in 0..self.cluster.geometry.processors() {
             if p == asking {
                 continue;
             }
-            let window = self.geometry.window(p, block);
+            let window = self.cluster.geometry.window(p, block);
             for i in window.from..window.from + window.count {
-                if lines[i].lies_in(Keys::only(block)) {
+                if self.lines[i].lies_in(Keys::only(block)) {
                     holder = Some(p);
                     break 'caches;
                 }

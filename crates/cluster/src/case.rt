@@ -1,6 +1,5 @@
 // What a command meets: refusals 3 to 10, else what it found and what the state table says.
 ghost use Rattle.std.specs.Prelude.{◌≡◌, ◌<◌, length, IfSome, IfOk, Ok, OnOk};
-ghost use Rattle.protocol.specs.Places.{line_count};
 ghost use Rattle.cluster.specs.Cases.{Sound};
 ghost use Rattle.cluster.specs.Doing.{asks_for_block, lock_hit, takes_way};
 ghost use Rattle.cluster.specs.Refusing.{unless_refused, is_direct_write, admission, lock_tests, entry_used, case_met, case_of};
@@ -9,9 +8,9 @@ ghost use Rattle.cluster.specs.Waiting.{Ready};
 
 use crate::caches::line_at;
 use crate::cluster::{Cluster, Processor};
+use crate::view::View;
 use protocol::acting::acts_as;
 use protocol::command::{Action, BusCommand, Command, Request};
-use protocol::line::Line;
 use protocol::lock::LockEntry;
 use protocol::refusal::Refusal;
 use protocol::state::State;
@@ -110,27 +109,24 @@ impl Cluster {
         }
         Ok(())
     }
+}
 
+impl<'a> View<'a> {
     // Refusals 9 and 10.
-    fn case_met(
-        &self,
-        lines: &[Line],
-        locks: &[LockEntry],
-        request: Request,
-        entry: Option<usize>,
-    ) -> Result<Case, Refusal>
-        requires rows { length lines.now ≡ line_count self.now.geometry.measures }
-        requires known { request.processor < self.now.geometry.measures.processors }
-        requires entry { IfSome entry (λ i. i < length locks.now) }
-        ensures value { result ≡ case_met self.now.geometry.measures lines.now locks.now request entry }
-        ensures sound { IfOk result (λ case. Sound self.now.geometry.measures (length lines.now) (length locks.now) case) }
+    fn case_met(&self, request: Request, entry: Option<usize>) -> Result<Case, Refusal>
+        requires known { request.processor < self.now.cluster.now.geometry.measures.processors }
+        requires entry { IfSome entry (λ i. i < length self.now.locks.now) }
+        ensures value { result ≡ case_met self.now.cluster.now.geometry.measures self.now.lines.now self.now.locks.now request entry }
+        ensures sound { IfOk result (λ case. Sound self.now.cluster.now.geometry.measures (length self.now.lines.now) (length self.now.locks.now) case) }
         ensures same { IfOk result (λ case. case.processor ≡ request.processor) }
     {
         let block = request.address / 4;
-        let place = self.line_of(lines, request.processor, block);
-        let found = line_at(lines, place).state;
-        let copy = self.supplier(lines, request.processor, block);
-        let holder = self.lock_holder(locks, request.processor, request.address);
+        let place = self.cluster.line_of(self.lines, request.processor, block);
+        let found = line_at(self.lines, place).state;
+        let copy = self.supplier(request.processor, block);
+        let holder = self
+            .cluster
+            .lock_holder(self.locks, request.processor, request.address);
         let action = acts_as(request.command, request.address, found, copy.is_some());
         if is_direct_write(action) && !found.is_valid() && (copy.is_some() || holder.is_some()) {
             return Err(Refusal::CopyElsewhere);
@@ -151,20 +147,13 @@ impl Cluster {
         })
     }
 
-    pub(crate) fn case_of(
-        &self,
-        lines: &[Line],
-        locks: &[LockEntry],
-        blocks: u32,
-        request: Request,
-    ) -> Result<Case, Refusal>
-        requires { length lines.now ≡ line_count self.now.geometry.measures }
-        ensures value { result ≡ case_of self.now.geometry.measures self.now.processors lines.now locks.now blocks request }
-        ensures sound { IfOk result (λ case. Sound self.now.geometry.measures (length lines.now) (length locks.now) case) }
-        ensures ready { IfOk result (λ case. Ready self.now.processors case.processor) }
+    pub(crate) fn case_of(&self, blocks: u32, request: Request) -> Result<Case, Refusal>
+        ensures value { result ≡ case_of self.now.cluster.now.geometry.measures self.now.cluster.now.processors self.now.lines.now self.now.locks.now blocks request }
+        ensures sound { IfOk result (λ case. Sound self.now.cluster.now.geometry.measures (length self.now.lines.now) (length self.now.locks.now) case) }
+        ensures ready { IfOk result (λ case. Ready self.now.cluster.now.processors case.processor) }
     {
-        self.admit(blocks, request)?;
-        let entry = self.entry_for(locks, request)?;
-        self.case_met(lines, locks, request, entry)
+        self.cluster.admit(blocks, request)?;
+        let entry = self.cluster.entry_for(self.locks, request)?;
+        self.case_met(request, entry)
     }
 }

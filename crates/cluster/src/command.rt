@@ -7,7 +7,8 @@ ghost use Rattle.cluster.specs.Rule.{command_rule};
 ghost use Rattle.cluster.specs.Waiting.{WaitsMore, FewerIdle};
 
 use crate::cluster::Cluster;
-use crate::supply::{swap_out, victim};
+use crate::supply::swap_out;
+use crate::view::View;
 use memory::memory::Memory;
 use protocol::answer::Answer;
 use protocol::command::Request;
@@ -63,13 +64,18 @@ impl Cluster {
         ensures cost { IfOk result (λ a. cycles_in a ≤ 4000) }
     {
         self.check_tables(lines, locks)?;
-        let case = self.case_of(lines, locks, memory.blocks(), request)?;
+        let view = View {
+            cluster: self,
+            lines,
+            locks,
+        };
+        let case = view.case_of(memory.blocks(), request)?;
         if let Some(holder) = case.lock_hit() {
             return Ok(Answer::Wait(self.wait(locks, &case, holder)));
         }
-        let supply = self.fetch(lines, memory, &case)?;
-        let taken = self.taken(lines, &case);
-        let swapped_out = swap_out(memory, victim(lines, taken))?;
+        let supply = view.fetch(memory, &case)?;
+        let taken = view.taken(&case);
+        let swapped_out = swap_out(memory, view.victim(taken))?;
         Ok(Answer::Done(self.finish(lines, locks, &case, supply, taken, swapped_out)))
     }
 }

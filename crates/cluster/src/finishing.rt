@@ -73,19 +73,6 @@ impl Cluster {
         }
     }
 
-    pub(crate) fn taken(&self, lines: &[Line], case: &Case) -> Option<Taken>
-        requires rows { length lines.now ≡ line_count self.now.geometry.measures }
-        requires known { case.now.processor < self.now.geometry.measures.processors }
-        ensures value { result ≡ way_taken self.now.geometry.measures self.now.processors lines.now case.now }
-        ensures within { IfSome result (λ t. t.place < length lines.now) }
-    {
-        if !case.takes_way() {
-            return None;
-        }
-        let turn = self.processors[case.processor as usize].turn;
-        Some(self.take_way(lines, case.processor, case.block, turn))
-    }
-
     pub(crate) fn raise_turn(&mut self, processor: u8)
         requires { processor < self.old.geometry.measures.processors }
         ensures processors { self.new.processors ≡ turn_raised self.old.geometry.measures.ways self.old.processors processor }

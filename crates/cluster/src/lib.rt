@@ -11,6 +11,7 @@ mod locks;
 mod making;
 mod snooping;
 mod supply;
+mod view;
 mod waking;
 mod ways;
 pub mod worked;

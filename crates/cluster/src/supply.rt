@@ -4,7 +4,7 @@ ghost use Rattle.cluster.specs.Doing.{supplied_by, supplied, victim_of, swapped_
 
 use crate::caches::line_at;
 use crate::case::{Case, asks_for_block};
-use crate::cluster::Cluster;
+use crate::view::View;
 use crate::ways::Taken;
 use memory::blocks::{read_block, write_block};
 use memory::memory::Memory;
@@ -19,20 +19,20 @@ pub struct Supply {
     pub from: Option<Supplier>,
 }
 
-impl Cluster {
+impl<'a> View<'a> {
     // The block as another cache or memory has it.
     fn supply_from<M: Memory>(
         &self,
-        lines: &[Line],
         memory: &M,
         block: u32,
         copy: Option<u8>,
     ) -> Result<Supply, Refusal>
-        ensures { result ≡ supplied_by self.now.geometry.measures lines.now (M.Memory.model memory.now) block copy }
+        ensures { result ≡ supplied_by self.now.cluster.now.geometry.measures self.now.lines.now (M.Memory.model memory.now) block copy }
     {
         match copy {
             Some(q) => {
-                let words = line_at(lines, self.line_of(lines, q, block)).words;
+                let place = self.cluster.line_of(self.lines, q, block);
+                let words = line_at(self.lines, place).words;
                 Ok(Supply {
                     words,
                     from: Some(Supplier::Cache(q)),
@@ -45,30 +45,25 @@ impl Cluster {
         }
     }
 
-    pub(crate) fn fetch<M: Memory>(
-        &self,
-        lines: &[Line],
-        memory: &M,
-        case: &Case,
-    ) -> Result<Supply, Refusal>
-        requires { IfSome case.now.place (λ i. i < length lines.now) }
-        ensures { result ≡ supplied self.now.geometry.measures lines.now (M.Memory.model memory.now) case.now }
+    pub(crate) fn fetch<M: Memory>(&self, memory: &M, case: &Case) -> Result<Supply, Refusal>
+        requires { IfSome case.now.place (λ i. i < length self.now.lines.now) }
+        ensures { result ≡ supplied self.now.cluster.now.geometry.measures self.now.lines.now (M.Memory.model memory.now) case.now }
     {
         if asks_for_block(case.effect.bus) {
-            return self.supply_from(lines, memory, case.block, case.copy);
+            return self.supply_from(memory, case.block, case.copy);
         }
-        let words = line_at(lines, case.place).words;
+        let words = line_at(self.lines, case.place).words;
         Ok(Supply { words, from: None })
     }
-}
 
-// The line in the way taken, if memory has to be given its block.
-pub(crate) fn victim(lines: &[Line], taken: Option<Taken>) -> Option<Line>
-    requires { IfSome taken (λ t. t.place < length lines.now) }
-    ensures { result ≡ victim_of lines.now taken }
-{
-    let old = lines[taken?.place];
-    old.state.is_modified().then_some(old)
+    // The line in the way taken, if memory has to be given its block.
+    pub(crate) fn victim(&self, taken: Option<Taken>) -> Option<Line>
+        requires { IfSome taken (λ t. t.place < length self.now.lines.now) }
+        ensures { result ≡ victim_of self.now.lines.now taken }
+    {
+        let old = self.lines[taken?.place];
+        old.state.is_modified().then_some(old)
+    }
 }
 
 // Writes the victim's block to memory.

@@ -1,11 +1,11 @@
 // The way that a command takes in its window.
-ghost use Rattle.std.specs.Prelude.{◌≡◌, ◌<◌, length};
-ghost use Rattle.protocol.specs.Places.{line_count};
+ghost use Rattle.std.specs.Prelude.{◌≡◌, ◌<◌, length, IfSome};
+ghost use Rattle.cluster.specs.Finishing.{way_taken};
 ghost use Rattle.cluster.specs.Ways.{taken_way};
 
-use crate::cluster::Cluster;
+use crate::case::Case;
+use crate::view::View;
 use protocol::directory::Directory;
-use protocol::line::Line;
 
 // The way that a processor takes in its window, and whether its turn chose it. A struct and no enum: every reader wants
 // the place, and one alone the flag.
@@ -15,24 +15,36 @@ pub struct Taken {
     pub by_turn: bool,
 }
 
-impl Cluster {
+impl<'a> View<'a> {
     // The lowest way of the window that is I, else the one numbered by the turn.
-    pub(crate) fn take_way(&self, lines: &[Line], processor: u8, block: u32, turn: usize) -> Taken
-        requires rows { length lines.now ≡ line_count self.now.geometry.measures }
-        requires known { processor < self.now.geometry.measures.processors }
-        ensures value { result ≡ taken_way self.now.geometry.measures lines.now processor block turn }
-        ensures within { result.place < length lines.now }
+    fn take_way(&self, processor: u8, block: u32, turn: usize) -> Taken
+        requires { processor < self.now.cluster.now.geometry.measures.processors }
+        ensures value { result ≡ taken_way self.now.cluster.now.geometry.measures self.now.lines.now processor block turn }
+        ensures within { result.place < length self.now.lines.now }
     {
-        let window = self.geometry.window(processor, block);
-        match Directory::new(lines).free(window) {
+        let window = self.cluster.geometry.window(processor, block);
+        match Directory::new(self.lines).free(window) {
             Some(free) => Taken {
                 place: free,
                 by_turn: false,
             },
             None => Taken {
-                place: window.from + turn % self.geometry.ways(),
+                place: window.from + turn % self.cluster.geometry.ways(),
                 by_turn: true,
             },
         }
+    }
+
+    // The way that the command takes, if it takes one.
+    pub(crate) fn taken(&self, case: &Case) -> Option<Taken>
+        requires { case.now.processor < self.now.cluster.now.geometry.measures.processors }
+        ensures value { result ≡ way_taken self.now.cluster.now.geometry.measures self.now.cluster.now.processors self.now.lines.now case.now }
+        ensures within { IfSome result (λ t. t.place < length self.now.lines.now) }
+    {
+        if !case.takes_way() {
+            return None;
+        }
+        let turn = self.cluster.processors[case.processor as usize].turn;
+        Some(self.take_way(case.processor, case.block, turn))
     }
 }
