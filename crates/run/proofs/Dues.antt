@@ -1,73 +1,84 @@
 -- Which record is due: the earliest index of a processor that does not wait.
-use Rattle.std.proofs.Common.{◌≡◌, ℕ, zero, suc, ◌+◌, ◌-◌, ◌<◌, ◌≤◌, Bool, true, false, cond, not, ◌&&◌, ltb, List, get_or, is_some, Some, None, Option, sym, refl, ap, ◌∙◌, inl, inr, arith}
+use Rattle.std.proofs.Common.{◌≡◌, ℕ, ◌<◌, ◌≤◌, Bool, true, false, cond, not, ◌&&◌, ltb, List, [], ◌∷◌, length, get_or, is_some, Some, None, Option, sym, refl, ◌∙◌, subst, inl, inr, arith, MatchOption, IfSome, IsSomeAnd, Bor}
+use Rattle.std.specs.Fn.{Mut, CalledAt}
+use Rattle.std.specs.Iterator.{Yields, DrainsIf}
+use Rattle.std.specs.Iterator.Runs.{Run, YieldsRun, WholeRun, AnyItem, NoKeyBeyond, CallKeepsClosure}
+use Rattle.std.specs.List.{filter, range_with_len, All, Contains, AllByRecursion}
+use Rattle.std.specs.Ordering.{is_lt, nat_cmp}
+use Rattle.std.proofs.lemmas.Iterator.{YieldsList, items_from_drains}
+use Rattle.std.proofs.lemmas.Iterator.Adapters.{option_map_id}
+use Rattle.std.proofs.lemmas.List.{map-id}
+use Rattle.std.proofs.lemmas.List.Elements.{All-from_recursion, recursion_from_All, All-contains, All-filter, filter_passes}
+use Rattle.std.proofs.lemmas.List.FromFn.{get_or-range_with_len}
+use Rattle.std.proofs.lemmas.Map.Keys.{ge_from_not_lt}
+use Rattle.std.proofs.lemmas.Bool.{true≢false}
 use Rattle.std.proofs.lemmas.Bool.Decides.{leb_tells, nat_tests}
 use Rattle.run.specs.Kept.{Earliest}
 
--- of n processors from p on, the one with the earliest index that does not wait, if it is earlier than that of the best so far
-unfoldable pub earliest_from : (ℕ → Option ℕ) → List ℕ → ℕ → ℕ → ℕ → Option ℕ → Option ℕ
-earliest_from waits next p zero earliest best = best
-earliest_from waits next p (suc n) earliest best =
-    cond (ltb (get_or next p 0) earliest && not (is_some (waits p)))
-    (earliest_from waits next (p + 1) n (get_or next p 0) (Some p))
-    (earliest_from waits next (p + 1) n earliest best)
+-- none of an empty list, and else an element with the smallest key
+abbrev pub IsLeastOf : (ℕ → ℕ) → List ℕ → Option ℕ → Type 0
+IsLeastOf h xs r = MatchOption r (length xs ≡ 0) (λ m. Contains xs m × All (λ x. h m ≤ h x) xs)
 
-module _ (waits : ℕ → Option ℕ) (next : List ℕ) where
-  pub earliest_step : (p e : ℕ) (best : Option ℕ) (test : Bool) → p < 8 → ltb (get_or next p 0) e && not (is_some (waits p)) ≡ test
-      → earliest_from waits next p (8 - p) e best
-      ≡ cond test (earliest_from waits next (p + 1) (8 - (p + 1)) (get_or next p 0) (Some p)) (earliest_from waits next (p + 1) (8 - (p + 1)) e best)
-  unfolding earliest_from
-  earliest_step p e best test h same =
-      let more : 8 - p ≡ suc (8 - (p + 1)) = omega arith in
-      ap (λ n. earliest_from waits next p n e best) more
-      ∙ ap (λ b. cond b (earliest_from waits next (p + 1) (8 - (p + 1)) (get_or next p 0) (Some p)) (earliest_from waits next (p + 1) (8 - (p + 1)) e best)) same
+-- what `min_by_key` gives of a chain's list, by the key that its closure computes
+module _ {S F : Type 0} {steps : S → Option ℕ → S → Type 0} (g : Mut F (Bor ℕ × Unit {0}) ℕ) (h : ℕ → ℕ) (f : F)
+    (keeps : CallKeepsClosure g f) (computes : (x k : ℕ) (q : F) → CalledAt g f x k q → k ≡ h x) where
+  abbrev Picks : Run steps → Option ℕ → Type 0
+  Picks p r = MatchOption r (p.len ≡ 0) (λ m. AnyItem p (λ x. x ≡ m) × NoKeyBeyond p g f is_lt nat_cmp m)
 
-  pub earliest_end : (p e : ℕ) (best : Option ℕ) → 8 ≤ p → earliest_from waits next p (8 - p) e best ≡ best
-  unfolding earliest_from
-  earliest_end p e best h = let none : 8 - p ≡ 0 = omega arith in ap (λ n. earliest_from waits next p n e best) none
+  least : (p : Run steps) (r : Option ℕ) → ((k d : ℕ) → k < p.len → p.at k ≡ Some (get_or p.items k d)) → Picks p r → IsLeastOf h p.items r
+  least p None at run = sym p.long ∙ run
+  least p (Some m) at run =
+      let best = run.1 keeps in
+      let lowest : (k d : ℕ) → k < length p.items → h m ≤ h (get_or p.items k d) = λ k d low.
+      let one = subst (λ o. IfSome o (λ x. (i : ℕ) × CalledAt g f x i f × (is_lt (nat_cmp i best.0) ≡ false))) (at k d (omega (arith, low, p.long))) (best.2 k) in
+      omega (arith, ge_from_not_lt one.0 best.0 one.2, computes m best.0 f best.1, computes (get_or p.items k d) one.0 f one.1) in
+      ((run.0.0, omega (arith, run.0.1, p.long), subst (λ o. IsSomeAnd o (λ x. x ≡ m)) (at run.0.0 m run.0.1) run.0.2), lowest)
 
-  -- the best of the processors below p
-  abbrev Named : ℕ → ℕ → Option ℕ → Type 0
-  Named count e None = e ≡ count
-  Named count e (Some d) = (d < 8) × (waits d ≡ None) × (get_or next d 0 ≡ e) × (e < count)
+  pub least_by_key : (s : S) (xs : List ℕ) (r : Option ℕ) → WholeRun steps s (λ p. Picks p r) → YieldsList steps (λ x. x) s xs → IsLeastOf h xs r
+  unfolding YieldsRun
+  least_by_key s xs r run list =
+      let p = run.0 in
+      let drained : DrainsIf steps (Unit {0}) s p.items = (p.gave.0.0, subst (λ u. Yields steps u p.items p.gave.0.0) run.1 p.gave.0.1, λ _. p.gave.0.2 run.2) in
+      let items : p.items ≡ xs = sym (map-id p.items) ∙ items_from_drains p.items drained list in
+      subst (λ ys. IsLeastOf h ys r) items (least p r (λ k d low. sym (option_map_id (p.at k)) ∙ p.reads k d low) run.3)
 
-  abbrev Least : ℕ → ℕ → Type 0
-  Least p e = (q : ℕ) → q < p → waits q ≡ None → e ≤ get_or next q 0
+-- what holds of all that a filter kept holds of each element that passes
+module _ {X : Type 0} (P : X → Type 0) (t : X → Bool) where
+  abbrev Passing : X → Type 0
+  Passing x = t x ≡ true → P x
 
-  least_more : (p e : ℕ) → Least p e → (waits p ≡ None → e ≤ get_or next p 0) → Least (p + 1) e
-  least_more p e least here q h none = elim (leb_tells (q + 1) p) [
-    | inl below ↦ least q (omega (arith, below.1)) none
-    | inr last ↦ let same : q ≡ p = omega (arith, h, last.1) in let low = here (ap waits (sym same) ∙ none) in rw same low
+  one : (x : X) (ys : List X) (b : Bool) → t x ≡ b → AllByRecursion P (cond b (x ∷ ys) ys) → Passing x × AllByRecursion P ys
+  one x ys true e all = (λ h. all.0, all.1)
+  one x ys false e all = (λ h. absurd (true≢false (sym h ∙ e)), all)
+
+  kept : (xs : List X) → AllByRecursion P (filter t xs) → AllByRecursion Passing xs
+  kept [] all = tt
+  kept (x ∷ xs) all = let h = one x (filter t xs) (t x) refl all in (h.0, kept xs h.1)
+
+  from_filter : (xs : List X) (x : X) → All P (filter t xs) → Contains xs x → t x ≡ true → P x
+  from_filter xs x all = All-contains Passing xs x (All-from_recursion Passing xs (kept xs (recursion_from_All P (filter t xs) all)))
+
+-- the processors that may go, which the chain's filter keeps
+module _ (waits : ℕ → Option ℕ) (next : List ℕ) (count : ℕ) where
+  abbrev pub goes : ℕ → Bool
+  goes p = ltb (get_or next p 0) count && not (is_some (waits p))
+
+  abbrev pub going : List ℕ
+  going = filter goes (range_with_len 0 8)
+
+  -- a bound on the indices of those that may go holds of all that do not wait, up to the count
+  bounded : (e : ℕ) → e ≤ count → All (λ x. e ≤ get_or next x 0) going → (q : ℕ) → q < 8 → waits q ≡ None → e ≤ get_or next q 0
+  bounded e low all q h idle = elim (leb_tells count (get_or next q 0)) [
+    | inl late ↦ omega (arith, late.1, low)
+    | inr early ↦ from_filter (λ x. e ≤ get_or next x 0) goes (range_with_len 0 8) q all (q, h, omega (arith, get_or-range_with_len 0 8 q q h)) (grind (arith, nat_tests))
   ]
 
-  at_end : (count p e : ℕ) (best : Option ℕ) → 8 ≤ p → Named count e best → Least p e → Earliest waits next count best
-  at_end count p e None end named least = λ q h none. let low = least q (omega (arith, h)) none in omega (arith, low, named)
-  at_end count p e (Some d) end named least =
-      (named.0, named.1, omega (arith, named.2, named.3), λ q h none. let low = least q (omega (arith, h)) none in omega (arith, low, named.2))
+  goes_tells : (m : ℕ) → goes m ≡ true → (waits m ≡ None) × (get_or next m 0 < count)
+  goes_tells m h = grind (arith, nat_tests)
 
-  module _ (count p n e : ℕ) (best : Option ℕ) (in_table : p < 8) (named : Named count e best) (most : e ≤ count) (least : Least p e)
-      (rest : (e' : ℕ) (b : Option ℕ) → Named count e' b → e' ≤ count → Least (p + 1) e' → Earliest waits next count (earliest_from waits next (p + 1) n e' b)) where
-    abbrev goes : Bool → Option ℕ
-    goes test = cond test (earliest_from waits next (p + 1) n (get_or next p 0) (Some p)) (earliest_from waits next (p + 1) n e best)
-
-    by_test : (b : Bool) (w : Option ℕ) → ltb (get_or next p 0) e ≡ b → waits p ≡ w → Earliest waits next count (goes (b && not (is_some w)))
-    by_test true None lower idle =
-        let less : get_or next p 0 < e = grind (arith, nat_tests) in
-        rest (get_or next p 0) (Some p) (in_table, idle, refl, omega arith) (omega arith)
-        (least_more p (get_or next p 0) (λ q h none. let low = least q h none in omega arith) (λ none. omega arith))
-    by_test true (Some x) lower waiting =
-        rest e best named most (least_more p e least (λ none. let no_way : ◌≡◌ {A = ℕ} 0 1 = cc in omega arith))
-    by_test false w higher any =
-        let more : e ≤ get_or next p 0 = grind (arith, nat_tests) in
-        rest e best named most (least_more p e least (λ none. more))
-
-  earliest_from_lem : (count n p e : ℕ) (best : Option ℕ) → p + n ≡ 8 → Named count e best → e ≤ count → Least p e
-      → Earliest waits next count (earliest_from waits next p n e best)
-  unfolding earliest_from
-  earliest_from_lem count zero p e best all named most least = at_end count p e best (omega (arith, all)) named least
-  earliest_from_lem count (suc n) p e best all named most least =
-      by_test count p n e best (omega (arith, all)) named most least
-      (λ e' b. earliest_from_lem count n (p + 1) e' b (omega (arith, all)))
-      (ltb (get_or next p 0) e) (waits p) refl refl
-
-  pub earliest_tells : (count : ℕ) → Earliest waits next count (earliest_from waits next 0 8 count None)
-  earliest_tells count = earliest_from_lem count 8 0 count None refl refl (omega arith) (λ q h none. absurd (omega (arith, h)))
+  pub earliest : (r : Option ℕ) → IsLeastOf (λ x. get_or next x 0) going r → Earliest waits next count r
+  earliest None none = bounded count (omega arith) (λ k d low. absurd (omega (arith, low, none)))
+  earliest (Some m) found =
+      let inside = All-contains (λ x. x < 8) going m (All-filter goes (λ x. x < 8) (range_with_len 0 8) (λ k d low. omega (arith, low, get_or-range_with_len 0 8 k d low))) found.0 in
+      let told = goes_tells m (All-contains (λ x. goes x ≡ true) going m (filter_passes goes (range_with_len 0 8)) found.0) in
+      (inside, told.0, told.1, bounded (get_or next m 0) (omega (arith, told.1)) found.1)

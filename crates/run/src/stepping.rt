@@ -65,16 +65,10 @@ impl<'a> Run<'a> {
         ensures { Earliest (awaited_in cluster.now.geometry.measures cluster.now.processors) self.now.next (records_in self.now.trace.records.now) result }
     {
         let next: &[usize] = &self.next;
-        let mut earliest = self.trace.count();
-        let mut best = None;
-        for p in 0..8 {
-            let at = next[p as usize];
-            if at < earliest && awake(cluster, p) {
-                earliest = at;
-                best = Some(p);
-            }
-        }
-        best
+        let count = self.trace.count();
+        (0..8)
+            .filter(|p| next[*p as usize] < count && awake(cluster, *p))
+            .min_by_key(|p| next[*p as usize])
     }
 
     // Counts the step and its cycles; an answer that finishes its record moves its processor on.
