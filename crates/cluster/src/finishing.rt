@@ -94,7 +94,8 @@ impl Cluster {
         }
     }
 
-    // The tables after a command that is not refused and does not wait.
+    // The tables after a command that is not refused and does not wait. `sound` ties the case to the geometry and to the
+    // lengths of tables that are lent to change, which no invariant of `Case` or of a view can hold.
     pub(crate) fn finish(
         &mut self,
         lines: &mut [Line],

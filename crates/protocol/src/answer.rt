@@ -5,6 +5,7 @@ ghost use Rattle.protocol.specs.Answers.{word_in, found_in, left_in, cycles_in};
 use crate::command::BusCommand;
 use crate::state::State;
 
+// No `Option<u8>`: it stands in an `Option` where none means that nobody supplied the block.
 #[derive(Clone, Copy)]
 pub enum Supplier {
     Memory,
@@ -32,6 +33,7 @@ pub struct LockHit {
     pub cycles: u32,
 }
 
+// No `Result`: WAIT is an answer, and the calls answer a `Result` of these with the refusals as its errors.
 #[derive(Clone, Copy)]
 pub enum Answer {
     Done(Completion),

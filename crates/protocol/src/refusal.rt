@@ -31,6 +31,7 @@ pub enum Refusal {
 }
 
 impl Refusal {
+    // No `From`: it is one of the two things that a refusal returns, and two refusals return the same number.
     pub fn number(self) -> u8
         ensures { result ≡ number_of self }
     {

@@ -17,6 +17,7 @@ fn count(lines: &[Line], state: State) -> u32
     lines.iter().filter(|line| line.state == state).count() as u32
 }
 
+// 8192 lines are the most that a geometry has. It is asked of lent slices, and a type for them would say it no shorter.
 fn row(lines: &[Line]) -> [u32; 5]
     requires { length lines.now ≤ 8192 }
     ensures { result ≡ row_of lines.now }
