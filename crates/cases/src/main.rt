@@ -17,7 +17,8 @@ struct Case<'a> {
     trace: &'a [u8],
 }
 
-// The cases of an input, as far as they are whole.
+// The cases of an input, as far as they are whole. Each program has its own: they differ in all that `next` reads
+// behind the name, and one generic type would need a trait and a marker to say the rest.
 #[derive(Drop)]
 struct Cases<'a>(&'a [u8]);
 

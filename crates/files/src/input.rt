@@ -105,7 +105,8 @@ fn task_of(head: Head, body: &[u8]) -> Task<'_> {
     }
 }
 
-// The cases of an input, as far as they are whole.
+// The cases of an input, as far as they are whole. Each program has its own: they differ in all that `next` reads
+// behind the name, and one generic type would need a trait and a marker to say the rest.
 #[derive(Drop)]
 pub struct Cases<'a>(pub &'a [u8]);
 

@@ -23,14 +23,17 @@ pub fn show_refusal(out: &mut Vec<u8>, refusal: Refusal) -> io::Result<()> {
     }
 }
 
+// The name of a refused call, and the refusal.
+pub fn show_refused(out: &mut Vec<u8>, call: &str, refusal: Refusal) -> io::Result<()> {
+    write!(out, "{call} ")?;
+    show_refusal(out, refusal)
+}
+
 // What a put answers.
 pub fn show_put(out: &mut Vec<u8>, answer: Result<(), Refusal>) -> io::Result<()> {
     match answer {
         Ok(()) => writeln!(out, "put OK"),
-        Err(refusal) => {
-            write!(out, "put ")?;
-            show_refusal(out, refusal)
-        }
+        Err(refusal) => show_refused(out, "put", refusal),
     }
 }
 
@@ -38,10 +41,7 @@ pub fn show_put(out: &mut Vec<u8>, answer: Result<(), Refusal>) -> io::Result<()
 pub fn show_close(out: &mut Vec<u8>, answer: Result<usize, Refusal>) -> io::Result<()> {
     match answer {
         Ok(length) => writeln!(out, "closed {length}"),
-        Err(refusal) => {
-            write!(out, "close ")?;
-            show_refusal(out, refusal)
-        }
+        Err(refusal) => show_refused(out, "close", refusal),
     }
 }
 

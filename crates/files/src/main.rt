@@ -7,7 +7,9 @@ mod input;
 mod lines;
 
 use input::{Cases, PUT_SIZE, Session, Source, Task, record_of};
-use lines::{show_close, show_copy, show_output, show_put, show_record, show_refusal};
+use lines::{
+    show_close, show_copy, show_output, show_put, show_record, show_refusal, show_refused,
+};
 use parts::cases::put_heading;
 use parts::reading::read_all;
 use std::alloc::Global;
@@ -53,10 +55,7 @@ fn put_all(
 fn write_trace(out: &mut Vec<u8>, output: &mut [u8], session: Session) -> io::Result<()> {
     let mut writer = match Writer::open(output, session.processors) {
         Ok(writer) => writer,
-        Err(refusal) => {
-            write!(out, "open ")?;
-            return show_refusal(out, refusal);
-        }
+        Err(refusal) => return show_refused(out, "open", refusal),
     };
     put_all(out, &mut writer, output, session.records)?;
     let lent = session.lent.min(output.len());

@@ -17,6 +17,7 @@ pub struct Effect {
 // Nothing where the command is a machine check.
 pub type Cell = Option<Effect>;
 
+// Written out one by one: the check answers that a call in a constant's value is not supported, and the table is a constant.
 const MC: Cell = None;
 
 const EM: Cell = Some(Effect {

@@ -14,7 +14,8 @@ use text::step::Summary;
 use trace::trace::Trace;
 
 impl<'a> Run<'a> {
-    // Takes steps until none is possible.
+    // Takes steps until none is possible. The listing's loop is not this one: it writes each step, and a closure that
+    // writes would have to be told of by what it leaves after each call.
     fn finish<M: Memory>(
         &mut self,
         cluster: &mut Cluster,

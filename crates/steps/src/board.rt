@@ -1,4 +1,4 @@
-// A cluster with its tables.
+// A cluster with its tables, made by the call that is tried here too: `run::board::Board` is made without it.
 use crate::error::CaseError;
 use cluster::cluster::Cluster;
 use memory::memory::Memory;

@@ -46,7 +46,8 @@ pub struct Case<'a> {
     pub records: &'a [u8],
 }
 
-// The cases of an input, as far as they are whole.
+// The cases of an input, as far as they are whole. Each program has its own: they differ in all that `next` reads
+// behind the name, and one generic type would need a trait and a marker to say the rest.
 #[derive(Drop)]
 pub struct Cases<'a>(pub &'a [u8]);
 

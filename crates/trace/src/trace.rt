@@ -103,7 +103,8 @@ impl<'a> Trace<'a> {
         }
     }
 
-    // The first record of the processor from an index on, or the number of records where there is none.
+    // The first record of the processor from an index on, or the number of records where there is none: the place where the
+    // search ends, which a run compares with the others.
     pub fn next_of(&self, processor: u8, from: usize) -> usize
         ensures value { result ≡ next_of processor from self.now.records.now }
         ensures later { from ≤ records_in self.now.records.now → from ≤ result }
