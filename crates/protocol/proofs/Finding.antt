@@ -17,7 +17,7 @@ use denote.Ref.{Bor}
 use Rattle.protocol.specs.Finding.{first_in, lowest_from}
 
 -- the place that is found is counted from where the list starts
-first_from : {X : Type 0} (test : X → Bool) (at : ℕ) (xs : List X)
+pub first_from : {X : Type 0} (test : X → Bool) (at : ℕ) (xs : List X)
     → first_in test at xs ≡ cond (ltb (position_or_len test xs) (length xs)) (Some (at + position_or_len test xs)) None
 first_from test at [] = refl
 first_from {X} test at (x ∷ xs) = by (test x) (first_from test (at + 1) xs)
