@@ -27,6 +27,7 @@ pub(crate) fn awake(processor: Processor, block: u32) -> Processor
 
 impl Cluster {
     // The processor waits for the block from now on, and the holders know.
+    #[tactic(auto, using(crate::proofs::Waits::waits_more, crate::proofs::Waits::waits_more_of_all))]
     pub(crate) fn wait(&mut self, locks: &mut [LockEntry], case: &Case, holder: u8) -> LockHit
         requires known { case.now.processor < self.old.geometry.measures.processors }
         requires block { case.now.block ≡ case.now.address / 4 }

@@ -1,5 +1,7 @@
 -- Who holds locks: the lock entries and the ledger agree.
 use Rattle.std.proofs.Common.{◌≡◌, ℕ, suc, ◌+◌, ◌*◌, ◌%◌, ◌<◌, ◌≤◌, Bool, true, false, cond, not, ◌&&◌, eqb, ltb, leb, List, length, get_or, set, is_some, Some, None, Option, sym, refl, ap, ◌∙◌, inl, inr, mul-le-mul_right, suc-mul, arith}
+use Rattle.std.specs.List.{count_by}
+use Rattle.std.proofs.lemmas.List.Sums.{sum_by-set}
 use Rattle.std.proofs.lemmas.Bool.Decides.{eqb_tells, nat_tests}
 use Rattle.protocol.specs.declared.command.Command.{Command}
 use Rattle.protocol.specs.declared.command.Command.TheVariants.{R, W, DW, RI, RP, RB, LR, UW, U}
@@ -19,7 +21,7 @@ use Rattle.cluster.specs.Rule.{Outcome}
 use Rattle.cluster.specs.Settling.{takes_lock, releases_lock, locked_at, locks_settled, ul_sent}
 use Rattle.law.specs.Ledger.{Ledger, command_fed, done_by}
 use Rattle.law.proofs.Shapes.{Shape, refused, waited, finished}
-use Rattle.law.proofs.Windows.{tally, tally-set, tally-map, first_tally, first_at, window_outside, window_inside, length-window, window-map, apart}
+use Rattle.law.proofs.Windows.{count-map, first_counted, first_at, window_outside, window_inside, length-window, window-map, apart}
 
 -- what the test for an address sees of an entry
 locked_seen : (a address : ℕ) → locks_from a a (locked_at address) ≡ eqb a address
@@ -74,7 +76,7 @@ done_holds l U processor address b p a = either b _ _ (changed processor address
 
 module _ (m : Measures) (locks : List LockEntry) (fit : length locks ≡ lock_count m) where
   abbrev pub held_in : List LockEntry → ℕ → ℕ → ℕ
-  held_in table p a = tally (locks_from a a) (window_of (locks_start m p) m.lock_entries table)
+  held_in table p a = count_by (locks_from a a) (window_of (locks_start m p) m.lock_entries table)
 
   room_of : (p : ℕ) → p < m.processors → locks_start m p + m.lock_entries ≤ length locks
   room_of p h =
@@ -86,7 +88,7 @@ module _ (m : Measures) (locks : List LockEntry) (fit : length locks ≡ lock_co
   pub kept_apart : (p0 p a place : ℕ) (e : LockEntry) → (p ≡ p0 → ⊥) → locks_start m p0 ≤ place → place < locks_start m p0 + m.lock_entries
       → held_in (set locks place e) p a ≡ held_in locks p a
   kept_apart p0 p a place e other low high =
-      ap (tally (locks_from a a)) (window_outside locks (locks_start m p) m.lock_entries place e
+      ap (count_by (locks_from a a)) (window_outside locks (locks_start m p) m.lock_entries place e
       (apart m.lock_entries p0 p place (λ same. other (sym same)) low high))
 
   pub exchanged : (p0 a place j : ℕ) (e : LockEntry) → p0 < m.processors → place ≡ locks_start m p0 + j → j < m.lock_entries
@@ -96,13 +98,13 @@ module _ (m : Measures) (locks : List LockEntry) (fit : length locks ≡ lock_co
       let s = locks_start m p0 in
       let n = m.lock_entries in
       let long = length-window locks s n (room_of p0 known) in
-      ap (λ w. tally (locks_from a a) w + cond (locks_from a a (get_or (window_of s n locks) j blank_entry)) 1 0) (window_inside locks s n place e j at low)
-      ∙ tally-set (locks_from a a) (window_of s n locks) j e blank_entry (omega (arith, long, low))
+      ap (λ w. count_by (locks_from a a) w + cond (locks_from a a (get_or (window_of s n locks) j blank_entry)) 1 0) (window_inside locks s n place e j at low)
+      ∙ sum_by-set (λ x. cond (locks_from a a x) 1 0) (window_of s n locks) j e blank_entry (omega (arith, long, low))
 
   pub kept_waited : (asking block p a : ℕ) → held_in (waited_for m locks asking block) p a ≡ held_in locks p a
   kept_waited asking block p a =
-      ap (tally (locks_from a a)) (window-map (waited_at m asking block) (locks_start m p) m.lock_entries locks)
-      ∙ tally-map (locks_from a a) (waited_at m asking block) (λ i e. waited_seen m asking block a i e) (0 + locks_start m p) (window_of (locks_start m p) m.lock_entries locks)
+      ap (count_by (locks_from a a)) (window-map (waited_at m asking block) (locks_start m p) m.lock_entries locks)
+      ∙ count-map (locks_from a a) (waited_at m asking block) (λ i e. waited_seen m asking block a i e) (0 + locks_start m p) (window_of (locks_start m p) m.lock_entries locks)
 
   -- the entries after a done command
   module _ (q : Request) (l : Ledger) (known : q.processor < m.processors)
@@ -155,7 +157,7 @@ module _ (m : Measures) (locks : List LockEntry) (fit : length locks ≡ lock_co
       where
         free_of : l.holds p0 a0 ≡ false
         free_of = one_of (l.holds p0 a0) (held_in locks p0 a0) (agree p0 known a0)
-            (not_none (held_in locks p0 a0) (sym (first_tally (locks_from a0 a0) (locks_start m p0) (window_of (locks_start m p0) m.lock_entries locks)) ∙ none))
+            (not_none (held_in locks p0 a0) (sym (first_counted (locks_from a0 a0) (locks_start m p0) (window_of (locks_start m p0) m.lock_entries locks)) ∙ none))
 
         own : (a x : ℕ) → x + 0 ≡ held_in locks p0 a + cond (eqb a a0) 1 0 → x ≡ cond (cond (eqb a a0) true (l.holds p0 a)) 1 0
         own a x e = elim (eqb_tells a a0) [

@@ -26,7 +26,10 @@ use Rattle.law.specs.Ledger.{Ledger, opened, fed}
 use Rattle.law.proofs.Awaits.{waits_kept}
 use Rattle.law.proofs.Holds.{holds_kept}
 use Rattle.law.proofs.Shapes.{Shape, refused, waited, finished, shape}
-use Rattle.law.proofs.Windows.{tally, first_tally}
+use Rattle.law.proofs.Windows.{first_counted}
+use Rattle.std.specs.List.{count_by}
+use Rattle.std.proofs.lemmas.List.Folds.{sum_by-replicate}
+use Rattle.std.proofs.lemmas.List.Sums.{sum_by-take-drop, sum_by-take-le}
 
 length-map : {X : Type 0} (f : ℕ → X → X) (at : ℕ) (xs : List X) → length (map_from f at xs) ≡ length xs
 length-map f at [] = refl
@@ -60,7 +63,7 @@ module _ (m : Measures) (ps : List Processor) (lines : List Line) (locks : List 
   processors_long o (finished f) = ap (λ x. length x.processors) f.is ∙ length_processors m ps locks f.case (way_taken m ps lines f.case)
 
 abbrev held_by : Measures → List LockEntry → ℕ → ℕ → ℕ
-held_by m locks p a = tally (locks_from a a) (window_of (locks_start m p) m.lock_entries locks)
+held_by m locks p a = count_by (locks_from a a) (window_of (locks_start m p) m.lock_entries locks)
 
 -- what is kept from call to call
 record Kept (m : Measures) (b : Board) (l : Ledger) : Type 0 where
@@ -75,7 +78,7 @@ some_one false = refl
 
 accounts : (m : Measures) (b : Board) (l : Ledger) → Kept m b l → Accounts m b l
 accounts m b l k = record {
-  locks = λ p a h. first_tally (locks_from a a) (locks_start m p) (window_of (locks_start m p) m.lock_entries b.locks) ∙ ap (ltb 0) (k.held p h a) ∙ some_one (l.holds p a);
+  locks = λ p a h. first_counted (locks_from a a) (locks_start m p) (window_of (locks_start m p) m.lock_entries b.locks) ∙ ap (ltb 0) (k.held p h a) ∙ some_one (l.holds p a);
   waits = k.waits;
 }
 
@@ -98,19 +101,8 @@ throughout m b l few k [] = accounts m b l k
 throughout m b l few k (call ∷ calls) = (accounts m b l k, throughout m (left_by m b call) (fed call (said_by m b call) l) few (kept_on m b l few k call) calls)
 
 -- a new cluster has no locks, and nobody waits
-blank_tally : (a k : ℕ) → tally (locks_from a a) (replicate k blank_entry) ≡ 0
-blank_tally a zero = refl
-blank_tally a (suc k) = let rest = blank_tally a k in omega (arith, rest)
-
-fewer_taken : (a n : ℕ) (xs : List LockEntry) → tally (locks_from a a) (take n xs) ≤ tally (locks_from a a) xs
-fewer_taken a zero xs = omega arith
-fewer_taken a (suc n) [] = omega arith
-fewer_taken a (suc n) (x ∷ xs) = let rest = fewer_taken a n xs in let one : ℕ = cond (locks_from a a x) 1 0 in omega (arith, rest)
-
-fewer_dropped : (a n : ℕ) (xs : List LockEntry) → tally (locks_from a a) (drop n xs) ≤ tally (locks_from a a) xs
-fewer_dropped a zero xs = omega arith
-fewer_dropped a (suc n) [] = omega arith
-fewer_dropped a (suc n) (x ∷ xs) = let rest = fewer_dropped a n xs in let one : ℕ = cond (locks_from a a x) 1 0 in omega (arith, rest)
+blank_counted : (a k : ℕ) → count_by (locks_from a a) (replicate k blank_entry) ≡ 0
+blank_counted a k = sum_by-replicate (λ x. cond (locks_from a a x) 1 0) k blank_entry ∙ omega arith
 
 at_rest : (k r : ℕ) → (get_or (replicate k resting) r resting).waits_for ≡ None
 at_rest zero r = refl
@@ -127,10 +119,11 @@ new_kept m mem = record {
   fit = length-replicate (lock_count m) blank_entry;
   waits = λ r. nobody (ltb r m.processors) _ (at_rest 8 r);
   held = λ p h a.
-      let all = blank_tally a (lock_count m) in
-      let part = fewer_dropped a (locks_start m p) (replicate (lock_count m) blank_entry) in
-      let some = fewer_taken a m.lock_entries (drop (locks_start m p) (replicate (lock_count m) blank_entry)) in
-      omega (arith, all, part, some);
+      let one = λ (e : LockEntry). cond {A = ℕ} (locks_from a a e) 1 0 in
+      let blank = replicate (lock_count m) blank_entry in
+      let part = sum_by-take-drop one blank (locks_start m p) in
+      let some = sum_by-take-le one (drop (locks_start m p) blank) m.lock_entries in
+      omega (arith, blank_counted a (lock_count m), part, some);
 }
 
 pub locks_told : LocksAreTold

@@ -1,43 +1,33 @@
 -- Counting entries in a processor's window of a table.
 use Rattle.std.proofs.Common.{◌≡◌, ℕ, zero, suc, ◌+◌, ◌-◌, ◌*◌, ◌<◌, ◌≤◌, Bool, true, false, cond, ltb, ◌⊎◌, List, [], ◌∷◌, length, get_or, take, drop, set, is_some, Some, None, unwrap_or, sym, refl, ap, ◌∙◌, inl, inr, mul-le-mul_right, suc-mul, arith, length-drop, length-take, drop-set-lt}
 use lib.Seq.{take-set-le, take-set-lt, drop-set-add}
+use Rattle.std.specs.List.{count_by, position_or_len}
 use Rattle.std.proofs.lemmas.Bool.Decides.{leb_tells, nat_tests}
+use Rattle.std.proofs.lemmas.List.Sums.{sum_by-cons, passes_at_first}
+use Rattle.std.proofs.lemmas.Option.{cond_some}
+use Rattle.protocol.proofs.Finding.{first_from}
 use Rattle.protocol.specs.Finding.{first_in, window_of}
 use Rattle.cluster.specs.Tables.{map_from}
 
-not_some : {X : Type 0} {x : X} → Some x ≡ None → ⊥
-not_some h = let no_way : ◌≡◌ {A = ℕ} 0 1 = cc in omega (arith, no_way)
-
 module _ {X : Type 0} (test : X → Bool) where
-  abbrev pub tally : List X → ℕ
-  tally [] = 0
-  tally (x ∷ xs) = cond (test x) 1 0 + tally xs
-
-  -- one entry exchanged
-  pub tally-set : (xs : List X) (j : ℕ) (e d : X) → j < length xs → tally (set xs j e) + cond (test (get_or xs j d)) 1 0 ≡ tally xs + cond (test e) 1 0
-  tally-set [] j e d h = absurd (omega (arith, h))
-  tally-set (x ∷ xs) zero e d h = let a : ℕ = cond (test e) 1 0 in let b : ℕ = cond (test x) 1 0 in omega arith
-  tally-set (x ∷ xs) (suc j) e d h =
-      let rest = tally-set xs j e d (omega (arith, h)) in
-      let a : ℕ = cond (test e) 1 0 in
-      let b : ℕ = cond (test (get_or xs j d)) 1 0 in
-      let c : ℕ = cond (test x) 1 0 in
-      omega (arith, rest)
+  abbrev one : X → ℕ
+  one x = cond (test x) 1 0
 
   -- entries changed so that the test sees no difference
-  pub tally-map : (f : ℕ → X → X) → ((i : ℕ) (x : X) → test (f i x) ≡ test x) → (at : ℕ) (xs : List X) → tally (map_from f at xs) ≡ tally xs
-  tally-map f same at [] = refl
-  tally-map f same at (x ∷ xs) = λ k. cond (same at x k) 1 0 + tally-map f same (at + 1) xs k
+  pub count-map : (f : ℕ → X → X) → ((i : ℕ) (x : X) → test (f i x) ≡ test x) → (at : ℕ) (xs : List X) → count_by test (map_from f at xs) ≡ count_by test xs
+  count-map f same at [] = refl
+  count-map f same at (x ∷ xs) =
+      sum_by-cons one (f at x) (map_from f (at + 1) xs) ∙ (λ k. cond (same at x k) 1 0 + count-map f same (at + 1) xs k) ∙ sym (sum_by-cons one x xs)
 
   -- one is found exactly where there are some
-  pub first_tally : (at : ℕ) (xs : List X) → is_some (first_in test at xs) ≡ ltb 0 (tally xs)
-  first_tally at [] = refl
-  first_tally at (x ∷ xs) = by_test (test x) (first_tally (at + 1) xs)
+  pub first_counted : (at : ℕ) (xs : List X) → is_some (first_in test at xs) ≡ ltb 0 (count_by test xs)
+  first_counted at [] = refl
+  first_counted at (x ∷ xs) = by_test (test x) (first_counted (at + 1) xs) ∙ ap (ltb 0) (sym (sum_by-cons one x xs))
     where
-      by_test : (b : Bool) → is_some (first_in test (at + 1) xs) ≡ ltb 0 (tally xs)
-          → is_some (cond b (Some at) (first_in test (at + 1) xs)) ≡ ltb 0 (cond b 1 0 + tally xs)
-      by_test true rest = sym (let some : ltb 0 (1 + tally xs) ≡ true = grind (arith, nat_tests) in some)
-      by_test false rest = rest ∙ ap (ltb 0) (let none : tally xs ≡ 0 + tally xs = omega arith in none)
+      by_test : (b : Bool) → is_some (first_in test (at + 1) xs) ≡ ltb 0 (count_by test xs)
+          → is_some (cond b (Some at) (first_in test (at + 1) xs)) ≡ ltb 0 (cond b 1 0 + count_by test xs)
+      by_test true rest = sym (let some : ltb 0 (1 + count_by test xs) ≡ true = grind (arith, nat_tests) in some)
+      by_test false rest = rest ∙ ap (ltb 0) (let none : count_by test xs ≡ 0 + count_by test xs = omega arith in none)
 
   -- where the first one stands
   pub record FirstAt (at : ℕ) (xs : List X) (d : X) (i : ℕ) : Type 0 where
@@ -47,14 +37,10 @@ module _ {X : Type 0} (test : X → Bool) where
     pub passes : test (get_or xs index d) ≡ true
 
   pub first_at : (at : ℕ) (xs : List X) (d : X) (i : ℕ) → first_in test at xs ≡ Some i → FirstAt at xs d i
-  first_at at [] d i e = absurd (not_some (sym e))
-  first_at at (x ∷ xs) d i e = by_test (test x) refl (first_at (at + 1) xs d i) e
-    where
-      by_test : (b : Bool) → test x ≡ b → (first_in test (at + 1) xs ≡ Some i → FirstAt (at + 1) xs d i) → cond b (Some at) (first_in test (at + 1) xs) ≡ Some i → FirstAt at (x ∷ xs) d i
-      by_test true t more h = record { index = 0; is = (let same : at ≡ i = ap (λ o. unwrap_or o 0) h in omega (arith, same)); inside = omega arith; passes = t }
-      by_test false t more h =
-          let rest = more h in
-          record { index = suc rest.index; is = (let same = rest.is in omega (arith, same)); inside = (let low = rest.inside in omega (arith, low)); passes = rest.passes }
+  first_at at xs d i e =
+      let found = cond_some (ltb (position_or_len test xs) (length xs)) (at + position_or_len test xs) i (sym (first_from test at xs) ∙ e) in
+      let low : position_or_len test xs < length xs = let there = found.0 in grind (arith, nat_tests) in
+      record { index = position_or_len test xs; is = sym found.1; inside = low; passes = passes_at_first test xs d low }
 
 module _ {X : Type 0} (xs : List X) (s n i : ℕ) (e : X) where
   -- an entry outside a window

@@ -3,11 +3,21 @@ use Rattle.std.proofs.Common.{◌≡◌, ℕ, zero, suc, ◌+◌, ◌-◌, ◌<�
 use Rattle.std.specs.List.{position, position_or_len}
 use Rattle.std.proofs.lemmas.List.{drop_more}
 use Rattle.std.proofs.lemmas.Bool.Decides.{leb_tells, nat_tests}
+use Rattle.std.proofs.iter.Yields.{nat_range_steps}
+use Rattle.std.proofs.lemmas.Iterator.{first_from_Range}
+use Rattle.std.specs.Bool.{⊤}
+use Rattle.std.specs.Fn.{CalledAt}
+use Rattle.std.specs.Iterator.{YieldsThen}
+use Rattle.std.specs.List.{FoldsTo}
 use Rattle.std.specs.Option.{MatchOption}
+use Rattle.std.specs.declared.ops.Range.{Range}
+use Prim.{Unit}
+use denote.Param.Members.{Mut}
+use denote.Ref.{Bor}
 use Rattle.protocol.specs.Finding.{first_in, lowest_from}
 
 -- the place that is found is counted from where the list starts
-first_from : {X : Type 0} (test : X → Bool) (at : ℕ) (xs : List X)
+pub first_from : {X : Type 0} (test : X → Bool) (at : ℕ) (xs : List X)
     → first_in test at xs ≡ cond (ltb (position_or_len test xs) (length xs)) (Some (at + position_or_len test xs)) None
 first_from test at [] = refl
 first_from {X} test at (x ∷ xs) = by (test x) (first_from test (at + 1) xs)
@@ -24,42 +34,28 @@ module _ {X : Type 0} (test : X → Bool) (at : ℕ) (xs : List X) where
   pub first_found : (i : ℕ) → Some i ≡ position test xs → Some (at + i) ≡ first_in test at xs
   first_found i e = grind (arith, first_from test at xs, e)
 
-pub first_more : {X : Type 0} (test : X → Bool) (xs : List X) (i end : ℕ) (d : X) → i < end → end ≤ length xs
-    → first_in test i (take (end - i) (drop i xs))
-    ≡ cond (test (get_or xs i d)) (Some i) (first_in test (i + 1) (take (end - (i + 1)) (drop (i + 1) xs)))
-first_more test xs i end d h k =
+-- the step of a search over a window, by what the test says
+pub first_more : {X : Type 0} (test : X → Bool) (xs : List X) (i end : ℕ) (d : X) (b : Bool) → i < end → end ≤ length xs
+    → test (get_or xs i d) ≡ b
+    → first_in test i (take (end - i) (drop i xs)) ≡ cond b (Some i) (first_in test (i + 1) (take (end - (i + 1)) (drop (i + 1) xs)))
+first_more test xs i end d b h k e =
     let at : i < length xs = omega arith in
     let one : end - i ≡ suc (end - (i + 1)) = omega arith in
     ap (λ n. first_in test i (take n (drop i xs))) one
     ∙ ap (λ ys. first_in test i (take (suc (end - (i + 1))) ys)) (drop_more xs i d at)
-
-pub first_hit : {X : Type 0} (test : X → Bool) (xs : List X) (i end : ℕ) (d : X) → i < end → end ≤ length xs
-    → true ≡ test (get_or xs i d) → first_in test i (take (end - i) (drop i xs)) ≡ Some i
-first_hit test xs i end d h k e = first_more test xs i end d h k ∙ rw (← e)
-
-pub first_miss : {X : Type 0} (test : X → Bool) (xs : List X) (i end : ℕ) (d : X) → i < end → end ≤ length xs
-    → false ≡ test (get_or xs i d)
-    → first_in test i (take (end - i) (drop i xs)) ≡ first_in test (i + 1) (take (end - (i + 1)) (drop (i + 1) xs))
-first_miss test xs i end d h k e = first_more test xs i end d h k ∙ rw (← e)
+    ∙ ap (λ c. cond c (Some i) (first_in test (i + 1) (take (end - (i + 1)) (drop (i + 1) xs)))) e
 
 pub first_end : {X : Type 0} (test : X → Bool) (xs : List X) (i end : ℕ) → end ≤ i
     → first_in test i (take (end - i) (drop i xs)) ≡ None
 first_end test xs i end h =
     let none : end - i ≡ 0 = omega arith in ap (λ n. first_in test i (take n (drop i xs))) none
 
--- the step of a search over numbers
-lowest_more : (test : ℕ → Bool) (i end : ℕ) → i < end
-    → lowest_from test i (end - i) ≡ cond (test i) (Some i) (lowest_from test (i + 1) (end - (i + 1)))
-lowest_more test i end h =
+-- and over numbers
+pub lowest_more : (test : ℕ → Bool) (i end : ℕ) (b : Bool) → i < end → test i ≡ b
+    → lowest_from test i (end - i) ≡ cond b (Some i) (lowest_from test (i + 1) (end - (i + 1)))
+lowest_more test i end b h e =
     let one : end - i ≡ suc (end - (i + 1)) = omega arith in
-    ap (lowest_from test i) one
-
-pub lowest_hit : (test : ℕ → Bool) (i end : ℕ) → i < end → test i ≡ true → lowest_from test i (end - i) ≡ Some i
-lowest_hit test i end h e = lowest_more test i end h ∙ rw e
-
-pub lowest_miss : (test : ℕ → Bool) (i end : ℕ) → i < end → test i ≡ false
-    → lowest_from test i (end - i) ≡ lowest_from test (i + 1) (end - (i + 1))
-lowest_miss test i end h e = lowest_more test i end h ∙ rw e
+    ap (lowest_from test i) one ∙ ap (λ c. cond c (Some i) (lowest_from test (i + 1) (end - (i + 1)))) e
 
 -- what the lowest that passes tells, and that there is none
 abbrev pub Lowest : (ℕ → Bool) → ℕ → ℕ → Option ℕ → Type 0
@@ -100,10 +96,24 @@ module _ (test : ℕ → Bool) where
   lowest_none (suc count) from none =
       rw (none from (omega arith) (omega arith)) (lowest_none count (from + 1) (λ j a b. none j (omega (arith, a)) (omega (arith, b))))
 
-  -- what a `find` over the numbers below `count` tells of its answer
-  pub lowest_of : (count : ℕ) (r : Option ℕ)
-      → MatchOption r ((k : ℕ) → 0 ≤ k → k < count → test k ≡ false)
-      (λ i. (0 ≤ i) × (i < count) × (test i ≡ true) × ((k : ℕ) → 0 ≤ k → k < i → test k ≡ false))
-      → r ≡ lowest_from test 0 count
-  lowest_of count None h = sym (lowest_none count 0 (λ k low high. h k low (omega (arith, high))))
-  lowest_of count (Some i) h = sym (lowest_is count 0 i h.0 (omega (arith, h.1)) h.2 h.3)
+-- what a `find` over the numbers from `from` up to `end`, `count` in all, gives, where its closure sees what the test tells
+module _ (test seen : ℕ → Bool) (from end count : ℕ) (all : end - from ≡ count) (same : (i : ℕ) → i < end → seen i ≡ test i) where
+  by_answer : (r : Option ℕ)
+      → MatchOption r ((k : ℕ) → from ≤ k → k < end → seen k ≡ false)
+      (λ i. (from ≤ i) × (i < end) × (seen i ≡ true) × ((k : ℕ) → from ≤ k → k < i → seen k ≡ false))
+      → r ≡ lowest_from test from count
+  by_answer None h =
+      sym (lowest_none test count from (λ i low high.
+      let below : i < end = omega (arith, low, high, all) in sym (same i below) ∙ h i low below))
+  by_answer (Some i) h =
+      sym (lowest_is test count from i h.0 (let (low, high, _, _) = h in omega arith) (sym (same i h.1) ∙ h.2)
+      (λ k low high. let below : k < end = omega (arith, h.1, high) in sym (same k below) ∙ h.3 k low high))
+
+  pub lowest_found : {F : Type 0} {g : Mut F (Bor ℕ × Unit {0}) Bool} (u : Range ℕ) (f : F) (r : Option ℕ)
+      → (xs : List ℕ) × (j : F) × YieldsThen nat_range_steps (record { start = from; end = end }) xs r u
+      × FoldsTo (λ p x q. CalledAt g p x false q) f xs j × MatchOption r ⊤ (λ x. (h : F) × CalledAt g j x true h)
+      → ((x : ℕ) (q : F) → CalledAt g f x true q → seen x ≡ true)
+      → ((x : ℕ) (q : F) → CalledAt g f x false q → (q ≡ f) × (seen x ≡ false))
+      → r ≡ lowest_from test from count
+  lowest_found u f r ran passes fails =
+      by_answer r (first_from_Range (record { start = from; end = end }) u f r (λ i. seen i ≡ true) (λ i. seen i ≡ false) ran passes fails)

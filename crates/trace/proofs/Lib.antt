@@ -4,4 +4,3 @@ pub mod Reading
 pub mod Puts
 pub mod Copies
 pub mod Known
-pub mod Lowest

@@ -1,8 +1,8 @@
 -- Counting lines.
 use Rattle.std.proofs.Common.{◌≡◌, ℕ, zero, suc, ◌+◌, ◌-◌, ◌*◌, ◌%◌, ◌≤◌, Bool, true, false, cond, eqb, ltb, List, [], ◌∷◌, ◌++◌, length, get_or, take, drop, replicate, sym, refl, ap, ◌∙◌, add-zero, mul-le-mul_right, mod-eq_of_lt, mul-le-mul, zero-add, zero-mul, arith, take_all, take-add}
-use lib.Count.{ones, ones_in}
 use Rattle.std.proofs.lemmas.List.{drop-drop}
-use Rattle.std.proofs.lemmas.List.Sums.{sum_by-cons}
+use Rattle.std.proofs.lemmas.List.Sums.{sum_by-cons, sum_by-append}
+use Rattle.std.proofs.lemmas.Nat.{ones_le_self}
 use Rattle.std.proofs.lemmas.Bool.Decides.{nat_tests}
 use Rattle.protocol.specs.declared.geometry.Geometry.{Geometry}
 use Rattle.protocol.specs.declared.line.Line.{Line}
@@ -15,39 +15,15 @@ use Rattle.std.specs.Prelude.{count_by}
 use Rattle.upkeep.specs.Counting.{place_of, stands, count_in, row_of, first_line, cache_of, row_at, rows_from, census_of, modified_in}
 
 -- a power of two is not 0
-some_columns : (n : ℕ) → ones n ≡ 1 → 1 ≤ n
-unfolding ones ones_in
-some_columns zero e = absurd (not_one e)
-  where
-    not_one : ◌≡◌ {A = ℕ} 0 1 → ⊥
-    not_one h = omega (arith, h)
-some_columns (suc n) e = omega arith
-
 pub has_columns : (g : Geometry) → 1 ≤ g.measures.columns
-has_columns g = some_columns g.measures.columns g.power_of_two
-
--- no geometry has more lines
-pub few_lines : (g : Geometry) → line_count g.measures ≤ 8192
-few_lines g =
-    let m = g.measures in
-    let wide : m.processors * m.columns ≤ 8 * 256 = mul-le-mul g.few_processors g.few_columns in
-    let all : m.processors * m.columns * m.ways ≤ 8 * 256 * 4 = mul-le-mul wide g.few_ways in
-    all
-
-pub low_cycles : (blocks cost : ℕ) → blocks ≤ 8192 → cost ≤ 1000 → blocks * cost ≤ 8192 * 1000
-low_cycles blocks cost few low = mul-le-mul few low
+has_columns g = omega (arith, ones_le_self g.measures.columns, g.power_of_two)
 
 -- the modified lines, counted by the census and by the drain
 abbrev pub is_modified : Line → Bool
 is_modified line = modified line.state
 
-pub count_step : {X : Type 0} (test : X → Bool) (x : X) (xs : List X) → count_by test (x ∷ xs) ≡ cond (test x) 1 0 + count_by test xs
-count_step test x xs = sum_by-cons (λ y. cond (test y) 1 0) x xs
-
-count_both : (xs ys : List Line) (test : Line → Bool) → count_by test (xs ++ ys) ≡ count_by test xs + count_by test ys
-count_both [] ys test = let none : count_by test ys ≡ 0 + count_by test ys = omega arith in none
-count_both (x ∷ xs) ys test =
-    omega (arith, count_both xs ys test, count_step test x xs, count_step test x (xs ++ ys))
+abbrev pub one_modified : Line → ℕ
+one_modified line = cond (is_modified line) 1 0
 
 one_state : (s : State) → cond (eqb (place_of s) 0) 1 0 + cond (eqb (place_of s) 2) 1 0 ≡ cond {A = ℕ} (modified s) 1 0
 one_state EM = refl
@@ -59,7 +35,7 @@ one_state I = refl
 two_states : (lines : List Line) → count_by (stands EM) lines + count_by (stands SM) lines ≡ count_by is_modified lines
 two_states [] = refl
 two_states (line ∷ lines) =
-    omega (arith, two_states lines, one_state line.state, count_step (stands EM) line lines, count_step (stands SM) line lines, count_step is_modified line lines)
+    omega (arith, two_states lines, one_state line.state, sum_by-cons (λ x. cond (stands EM x) 1 0) line lines, sum_by-cons (λ x. cond (stands SM x) 1 0) line lines, sum_by-cons one_modified line lines)
 
 in_row : (lines : List Line) → get_or (row_of lines) 0 0 + get_or (row_of lines) 2 0 ≡ count_by is_modified lines
 unfolding count_in
@@ -69,19 +45,10 @@ module _ (m : Measures) (lines : List Line) where
   abbrev first : ℕ → ℕ
   first p = first_line m p
 
-  rises : (p : ℕ) → first p ≤ first (p + 1)
-  rises p =
-      let more : p * m.columns ≤ (p + 1) * m.columns = mul-le-mul_right m.columns (omega arith) in
+  rises : (p q : ℕ) → p ≤ q → first p ≤ first q
+  rises p q h =
+      let more : p * m.columns ≤ q * m.columns = mul-le-mul_right m.columns h in
       mul-le-mul_right m.ways (omega (arith, more))
-
-  rises_to : (n p : ℕ) → first p ≤ first (p + n)
-  rises_to zero p = let same : p ≡ p + 0 = omega arith in let kept : first p ≡ first (p + 0) = ap first same in omega (arith, kept)
-  rises_to (suc n) p =
-      let same : p + 1 + n ≡ p + suc n = omega arith in
-      let step = rises p in
-      let rest = rises_to n (p + 1) in
-      let kept : first (p + 1 + n) ≡ first (p + suc n) = ap first same in
-      omega (arith, step, rest, kept)
 
   -- the rows of processors that the geometry has count the lines up to the next processor's first
   rows_count : (n p : ℕ) → p + n ≤ m.processors → modified_in (rows_from m lines p n) ≡ count_by is_modified (take (first (p + n) - first p) (drop (first p) lines))
@@ -96,8 +63,8 @@ module _ (m : Measures) (lines : List Line) where
       let same : p + 1 + n ≡ p + suc n = omega arith in
       let x = first (p + 1) - first p in
       let y = first (p + 1 + n) - first (p + 1) in
-      let up = rises p in
-      let on = rises_to n (p + 1) in
+      let up = rises p (p + 1) (omega arith) in
+      let on = rises (p + 1) (p + 1 + n) (omega arith) in
       let all : x + y ≡ first (p + suc n) - first p = (let sum : x + y ≡ first (p + 1 + n) - first p = omega (arith, up, on) in sum ∙ ap (λ q. first q - first p) same) in
       let next : first p + x ≡ first (p + 1) = omega (arith, up) in
       let behind : drop x (drop (first p) lines) ≡ drop (first (p + 1)) lines = drop-drop x (first p) lines ∙ ap (λ k. drop k lines) next in
@@ -105,7 +72,7 @@ module _ (m : Measures) (lines : List Line) where
       = ap (λ k. take k (drop (first p) lines)) (sym all) ∙ take-add x y (drop (first p) lines) ∙ ap (λ ls. cache_of m lines p ++ take y ls) behind in
       let row : get_or (row_at m lines p) 0 0 + get_or (row_at m lines p) 2 0 ≡ count_by is_modified (cache_of m lines p)
       = ap (λ b. get_or (cond b (row_of (cache_of m lines p)) (replicate 5 0)) 0 0 + get_or (cond b (row_of (cache_of m lines p)) (replicate 5 0)) 2 0) here ∙ in_row (cache_of m lines p) in
-      (λ k. row k + rest k) ∙ sym (ap (count_by is_modified) whole ∙ count_both (cache_of m lines p) (take y (drop (first (p + 1)) lines)) is_modified)
+      (λ k. row k + rest k) ∙ sym (ap (count_by is_modified) whole ∙ sum_by-append one_modified (cache_of m lines p) (take y (drop (first (p + 1)) lines)))
 
   -- rows of other processors count nothing
   no_rows : (n p : ℕ) → m.processors ≤ p → modified_in (rows_from m lines p n) ≡ 0

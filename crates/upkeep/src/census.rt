@@ -31,6 +31,7 @@ fn row(lines: &[Line]) -> [u32; 5]
 }
 
 // A processor that the geometry does not have has a row of zeros.
+#[tactic(auto, unfolding(crate::specs::Counting::row_at))]
 fn row_of(geometry: &Geometry, lines: &[Line], processor: u8) -> [u32; 5]
     requires { length lines.now ≡ line_count geometry.now.measures }
     ensures { result ≡ row_at geometry.now.measures lines.now processor }

@@ -1,9 +1,8 @@
 use Rattle.std.proofs.Common.{◌≡◌, ℕ, ◌-◌, ◌*◌, ◌<◌, ◌==◌, Bool, true, false, [], length, drop, get_or, unwrap_or, ap, ◌∙◌, arith, rules}
-use Rattle.std.proofs.lemmas.Iterator.{first_from_Range}
 use Rattle.std.proofs.lemmas.List.{get_or-drop, get_or-take}
-use Rattle.protocol.specs.Finding.{lowest_from}
+use Rattle.protocol.proofs.Finding.{lowest_found}
+use Rattle.trace.specs.Sizes.{records_in}
 use Rattle.trace.specs.Traces.{is_of}
-use Rattle.trace.proofs.Lowest.{lowest_found}
 use Rattle.trace.proofs.Reading.{record_at}
 use Rattle.trace.proofs.trace.Trace.next_of.Goals as goal
 
@@ -18,7 +17,6 @@ returns-clause-value c =
     = λ i below. ap (λ x. x == p)
     (ap (λ ys. get_or ys 4 0) (record_at bytes chunks i [] told.front told.front_len below)
     ∙ get_or-take 16 (drop (i * 16) bytes) 4 0 (omega arith) ∙ get_or-drop (i * 16) bytes 4 0) in
-    let find = first_from_Range _ _ _ c.find.result (λ i. seen i ≡ true) (λ i. seen i ≡ false) c.find.ensures.ran (λ x q k. search rules) (λ x q k. search rules) in
-    let found = lowest_found (is_of p bytes) seen c.args.from (length chunks) same c.find.result find in
-    c.unwrap_or.ensures ∙ ap (λ o. unwrap_or o (length chunks)) found
-    ∙ ap (λ n. unwrap_or (lowest_from (is_of p bytes) c.args.from (n - c.args.from)) n) told.front_len
+    let found = lowest_found (is_of p bytes) seen c.args.from (length chunks) (records_in bytes - c.args.from) (omega (arith, told.front_len)) same _ _ c.find.result c.find.ensures.ran
+    (λ x q k. search rules) (λ x q k. search rules) in
+    c.unwrap_or.ensures ∙ (λ k. unwrap_or (found k) (told.front_len k))
