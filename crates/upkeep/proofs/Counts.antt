@@ -12,7 +12,8 @@ use Rattle.protocol.specs.declared.state.State.TheVariants.{I, S, SM, EC, EM}
 use Rattle.protocol.specs.Entries.{modified}
 use Rattle.protocol.specs.Places.{line_count}
 use Rattle.std.specs.Prelude.{count_by}
-use Rattle.upkeep.specs.Counting.{place_of, stands, count_in, row_of, first_line, cache_of, row_at, rows_from, census_of, modified_in}
+use Rattle.protocol.specs.StateTable.{column_for}
+use Rattle.upkeep.specs.Counting.{stands, count_in, row_of, first_line, cache_of, row_at, rows_from, census_of, modified_in}
 
 -- a power of two is not 0
 pub has_columns : (g : Geometry) → 1 ≤ g.measures.columns
@@ -25,7 +26,7 @@ is_modified line = modified line.state
 abbrev pub one_modified : Line → ℕ
 one_modified line = cond (is_modified line) 1 0
 
-one_state : (s : State) → cond (eqb (place_of s) 0) 1 0 + cond (eqb (place_of s) 2) 1 0 ≡ cond {A = ℕ} (modified s) 1 0
+one_state : (s : State) → cond (eqb (column_for s) 0) 1 0 + cond (eqb (column_for s) 2) 1 0 ≡ cond {A = ℕ} (modified s) 1 0
 one_state EM = refl
 one_state EC = refl
 one_state SM = refl

@@ -4,18 +4,11 @@ use Rattle.protocol.specs.declared.line.Line.{Line}
 use Rattle.protocol.specs.declared.measures.Measures.{Measures}
 use Rattle.protocol.specs.declared.state.State.{State}
 use Rattle.protocol.specs.declared.state.State.TheVariants.{I, S, SM, EC, EM}
+use Rattle.protocol.specs.StateTable.{column_for}
 use Rattle.protocol.specs.Places.{line_count, window_start}
 
--- the places in a row
-abbrev pub place_of : State → ℕ
-place_of EM = 0
-place_of EC = 1
-place_of SM = 2
-place_of S = 3
-place_of I = 4
-
 abbrev pub stands : State → Line → Bool
-stands state line = place_of line.state == place_of state
+stands state line = column_for line.state == column_for state
 
 unfoldable pub count_in : State → List Line → ℕ
 count_in state lines = count_by (stands state) lines
