@@ -6,6 +6,8 @@ ghost use Rattle.memory.specs.Meaning.{Mem, Lawful, Standing, reading, granted, 
 #[derive(Clone, Copy)]
 pub struct Denied;
 
+// Each table of its own refuses a block beyond its number: one test of three lines, which as a function would need a
+// contract in each of them.
 pub trait Memory {
     ghost model: { Self → Mem };
 

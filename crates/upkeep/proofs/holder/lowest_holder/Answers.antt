@@ -1,4 +1,4 @@
-use Rattle.std.proofs.Common.{◌-◌, ◌≡◌, refl, rules}
+use Rattle.std.proofs.Common.{refl, rules}
 use Rattle.protocol.proofs.Finding.{lowest_found}
 use Rattle.upkeep.specs.Holding.{holds}
 use Rattle.upkeep.proofs.holder.lowest_holder.Goals as goal
