@@ -34,7 +34,8 @@ impl Cluster {
         }
     }
 
-    // All caches but the asking one's see the bus command.
+    // All caches but the asking one's see the bus command. The loop is over numbers of processors, and each turn changes
+    // lines by place: there is no list to go over.
     pub(crate) fn snoop_others(&self, lines: &mut [Line], asking: u8, block: u32, bus: BusCommand)
         ensures { lines.new ≡ others_snooped self.now.geometry.measures bus asking block lines.old }
     {

@@ -24,7 +24,8 @@ pub const MOST_INPUT: usize = 65_536;
 
 pub const MEMORY_WORDS: usize = 1_024;
 
-// A line for each step, until none is possible.
+// A line for each step, until none is possible. A step borrows the cluster, its tables and the memory anew each time; an
+// iterator of steps would hold them, and promise what stands in them after each.
 fn put_steps<M: Memory>(
     out: &mut Vec<u8>,
     cluster: &mut Cluster,
