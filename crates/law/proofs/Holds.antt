@@ -31,7 +31,7 @@ unused_seen : (a : ℕ) (e : LockEntry) → unused in_use e ≡ true → locks_f
 unused_seen a e h = by_use (in_use e) h
   where
     by_use : (b : Bool) → not b ≡ true → (b && leb a e.address && leb e.address a) ≡ false
-    by_use true h = let no_way : ◌≡◌ {A = ℕ} 0 1 = cc in absurd (omega (arith, no_way))
+    by_use true h = absurd (cc)
     by_use false h = refl
 
 held_seen : (a address : ℕ) (e : LockEntry) → locks_from address address e ≡ true → locks_from a a e ≡ eqb a address
@@ -39,7 +39,7 @@ held_seen a address e h = by_use (in_use e) h
   where
     by_use : (b : Bool) → (b && leb address e.address && leb e.address address) ≡ true → (b && leb a e.address && leb e.address a) ≡ eqb a address
     by_use true h = grind (arith, nat_tests)
-    by_use false h = let no_way : ◌≡◌ {A = ℕ} 0 1 = cc in absurd (omega (arith, no_way))
+    by_use false h = absurd (cc)
 
 waited_seen : (m : Measures) (asking block a i : ℕ) (e : LockEntry) → locks_from a a (waited_at m asking block i e) ≡ locks_from a a e
 waited_seen m asking block a i e = by_own (own_entry m asking i) (in_use e) (leb (4 * block) e.address) (leb e.address (4 * block + 3)) refl
@@ -221,17 +221,17 @@ module _ (m : Measures) (locks : List LockEntry) (fit : length locks ≡ lock_co
     settled LR e x y z p listed a = rw e (by_free (free_entry m locks p0) refl y)
       where
         by_free : (o : Option ℕ) → free_entry m locks p0 ≡ o → not (is_some o) ≡ false → held_in (locks_settled LR a0 locks o) p a ≡ cond (changed p0 a0 true l p a) 1 0
-        by_free None same h = let no_way : ◌≡◌ {A = ℕ} 0 1 = cc in absurd (omega (arith, no_way))
+        by_free None same h = absurd (cc)
         by_free (Some place) same h = took place same x p listed a
     settled (UW word) e x y z p listed a = rw e (by_held (held_entry m locks p0 a0) refl z)
       where
         by_held : (o : Option ℕ) → held_entry m locks p0 a0 ≡ o → not (is_some o) ≡ false → held_in (locks_settled (UW word) a0 locks o) p a ≡ cond (changed p0 a0 false l p a) 1 0
-        by_held None same h = let no_way : ◌≡◌ {A = ℕ} 0 1 = cc in absurd (omega (arith, no_way))
+        by_held None same h = absurd (cc)
         by_held (Some place) same h = gave place same p listed a
     settled U e x y z p listed a = rw e (by_held (held_entry m locks p0 a0) refl z)
       where
         by_held : (o : Option ℕ) → held_entry m locks p0 a0 ≡ o → not (is_some o) ≡ false → held_in (locks_settled U a0 locks o) p a ≡ cond (changed p0 a0 false l p a) 1 0
-        by_held None same h = let no_way : ◌≡◌ {A = ℕ} 0 1 = cc in absurd (omega (arith, no_way))
+        by_held None same h = absurd (cc)
         by_held (Some place) same h = gave place same p listed a
 
 module _ (m : Measures) (ps : List Processor) (lines : List Line) (locks : List LockEntry) (mem : Mem) (q : Request) (l : Ledger)

@@ -4,7 +4,6 @@ use Rattle.std.specs.Option.{option_map}
 use Rattle.protocol.specs.declared.measures.Measures.{Measures}
 use Rattle.trace.specs.declared.record.Record.{Record}
 use Rattle.trace.specs.Traces.{when_some}
-use Rattle.trace.proofs.Puts.{not_some}
 use Rattle.text.specs.declared.step.Step.{Step}
 use Rattle.run.specs.Kept.{Going}
 use Rattle.run.specs.Running.{Running, how_many, due, stepped, shown, left, to_go, run_from, steps_from, ran}
@@ -44,7 +43,7 @@ module _ (m : Measures) (records : List Record) where
   module _ (first s s' : Running) (fuel : ℕ) (here : Going m records first s fuel) where
     by_due : (o : Option ℕ) (step : Step) → due m records s ≡ o → Some step ≡ option_map (shown m records s) o → s' ≡ when_some o (stepped m records s) s
         → to_go m records s' < to_go m records s → Further first s s' fuel step
-    by_due None step e value after less = absurd (not_some value)
+    by_due None step e value after less = absurd (cc)
     by_due (Some i) step e value after less =
         one_step first s s' fuel i step e (ap (λ o. when_some o (λ x. x) step) value) after here less
 
@@ -56,7 +55,7 @@ module _ (m : Measures) (records : List Record) where
   module _ (first s : Running) (fuel : ℕ) (here : Going m records first s fuel) where
     none_due : (o : Option ℕ) → None ≡ option_map (shown m records s) o → o ≡ None
     none_due None e = refl
-    none_due (Some i) e = absurd (not_some (sym e))
+    none_due (Some i) e = absurd (cc)
 
     pub no_step : None ≡ option_map (shown m records s) (due m records s) → due m records s ≡ None
     no_step e = none_due (due m records s) e
@@ -108,12 +107,12 @@ module _ (m : Measures) (records : List Record) where
     -- the same, where it is only asked whether there was a step
     pub on_some : (r : Option Step) → is_some r ≡ true → shows r m' records' → leaves m' records' → OnSome r (falls m' records')
         → (rest : ℕ) × Going m records first s' rest
-    on_some None e value told less = let no_way : ◌≡◌ {A = ℕ} 0 1 = cc in absurd (omega (arith, no_way))
+    on_some None e value told less = absurd (cc)
     on_some (Some step) e value told less = let further = goes_on step value told less in (further.rest, further.going)
 
     pub on_none : (r : Option Step) → is_some r ≡ false → shows r m' records' → leaves m' records' → Stopped
     on_none None e value told = stops value told
-    on_none (Some step) e value told = let no_way : ◌≡◌ {A = ℕ} 0 1 = cc in absurd (omega (arith, no_way))
+    on_none (Some step) e value told = absurd (cc)
 
 some_many : (test : ℕ → Bool) (n from : ℕ) → how_many test from n ≤ n
 some_many test zero from = omega arith

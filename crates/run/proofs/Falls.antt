@@ -22,7 +22,6 @@ use Rattle.cluster.specs.Waiting.{awaited_in, idle, FewerIdle}
 use Rattle.run.specs.Answered.{cost_of, finishes_record}
 use Rattle.trace.specs.declared.record.Record.{Record}
 use Rattle.trace.specs.Traces.{when_some}
-use Rattle.trace.proofs.Puts.{not_some}
 use Rattle.text.specs.declared.step.Step.{Step}
 use Rattle.run.specs.Running.{Running, how_many, request_at, may_step, due, outcome_at, stepped, shown, left, to_go}
 
@@ -103,9 +102,9 @@ cost_low (Ok answer) h = h
 cost_low (Err refusal) h = omega arith
 
 pub wait_falls : (n : ℕ) (r : Result Answer Refusal) (ps qs : List Processor) → finishes_record r ≡ false → FewerIdle n r ps qs → idle n qs < idle n ps
-wait_falls n (Ok (Done done)) ps qs e h = let no_way : ◌≡◌ {A = ℕ} 0 1 = cc in omega arith
+wait_falls n (Ok (Done done)) ps qs e h = absurd (cc)
 wait_falls n (Ok (Wait hit)) ps qs e h = h
-wait_falls n (Err refusal) ps qs e h = let no_way : ◌≡◌ {A = ℕ} 0 1 = cc in omega arith
+wait_falls n (Err refusal) ps qs e h = absurd (cc)
 
 -- what is due, and what a step leaves of it
 module _ (m : Measures) (records : List Record) (s : Running) where
@@ -114,18 +113,18 @@ module _ (m : Measures) (records : List Record) (s : Running) where
   due_tells i e = by_found (lowest_from (may_step m records s) 0 (length records)) (lowest_tells (may_step m records s) (length records) 0) e
     where
       by_found : (o : Option ℕ) → Lowest (may_step m records s) 0 (length records) o → o ≡ Some i → (i < length records) × (may_step m records s i ≡ true)
-      by_found None h none = absurd (not_some (sym none))
+      by_found None h none = absurd (cc)
       by_found (Some k) h some =
           let same : k ≡ i = ap (λ o. when_some o (λ x. x) 0) some in
           (let below = h.1 in omega (arith, below, same), ap (may_step m records s) (sym same) ∙ h.2)
 
   unfinished_due : (i : ℕ) (a b : Bool) → (a && b) ≡ true → (a ≡ true) × (b ≡ true)
   unfinished_due i true b e = (refl, e)
-  unfinished_due i false b e = let no_way : ◌≡◌ {A = ℕ} 0 1 = cc in absurd (omega (arith, no_way))
+  unfinished_due i false b e = absurd (cc)
 
   awake : (w : Option ℕ) → not (is_some w) ≡ true → w ≡ None
   awake None e = refl
-  awake (Some x) e = let no_way : ◌≡◌ {A = ℕ} 0 1 = cc in absurd (omega (arith, no_way))
+  awake (Some x) e = absurd (cc)
 
   module _ (s' : Running) (i : ℕ) (answer : Result Answer Refusal) (is-due : due m records s ≡ Some i)
       (after : s'.unfinished ≡ (λ j. s.unfinished j && not (finishes_record answer && eqb j i))) where

@@ -28,7 +28,7 @@ module _ (m : Measures) (ps : List Processor) (lines : List Line) (locks : List 
   tables_unfit e told = by_fit fit refl told
     where
       by_fit : (b : Bool) → fit ≡ b → Err e ≡ checked b → not_run m ps lines locks mem e ≡ run_rule m ps lines locks mem bytes
-      by_fit true same told = let no_way : ◌≡◌ {A = Bool} true false = cc in ap (λ b. cond b (run_rule m ps lines locks mem bytes) (not_run m ps lines locks mem e)) (sym no_way)
+      by_fit true same told = cc
       by_fit false same told = rw same (ap (not_run m ps lines locks mem) (ap (why e) told))
 
   pub tables_fit_lem : (x : Unit {0}) → Ok x ≡ checked fit → fit ≡ true
@@ -36,7 +36,7 @@ module _ (m : Measures) (ps : List Processor) (lines : List Line) (locks : List 
     where
       by_fit : (b : Bool) → Ok x ≡ checked b → b ≡ true
       by_fit true told = refl
-      by_fit false told = let no_way : ◌≡◌ {A = Bool} false true = cc in no_way
+      by_fit false told = cc
 
   pub not_read : (e : Refusal) → fit ≡ true → Err e ≡ trace_of bytes → not_run m ps lines locks mem e ≡ run_rule m ps lines locks mem bytes
   unfolding run_rule

@@ -15,7 +15,7 @@ use Rattle.trace.specs.declared.trace.Trace.{Trace}
 use Rattle.trace.specs.Sizes.{records_in}
 use Rattle.trace.specs.Records.{decoded}
 use Rattle.trace.specs.Traces.{wrong_from, records_of, is_of, next_of, when_some}
-use Rattle.trace.proofs.Puts.{not_some}
+use Rattle.std.proofs.lemmas.Option.{none-some}
 use Rattle.trace.proofs.Reading.{too_short, past_records}
 use Rattle.trace.proofs.Copies.{records_many}
 use Rattle.trace.proofs.Known.{known, known_processor}
@@ -37,7 +37,7 @@ by_lowest bytes p from None low h = record {
   later = low;
   most = omega arith;
   own = λ less. absurd (omega (arith, less));
-  least = λ j a b is. let none = h j a (omega (arith, a, b, low)) in let no_way : ◌≡◌ {A = ℕ} 0 1 = cc in omega arith;
+  least = λ j a b is. let none = h j a (omega (arith, a, b, low)) in absurd (cc);
 }
 by_lowest bytes p from (Some x) low h = record {
   later = h.0;
@@ -45,7 +45,7 @@ by_lowest bytes p from (Some x) low h = record {
   own = λ less. h.2;
   least = λ j a b is. elim (leb_tells x j) [
     | inl fine ↦ fine.1
-    | inr less ↦ let none = h.3 j a less.1 in let no_way : ◌≡◌ {A = ℕ} 0 1 = cc in omega arith
+    | inr less ↦ let none = h.3 j a less.1 in absurd (cc)
   ];
 }
 
@@ -56,7 +56,7 @@ next_at bytes p from low =
 -- a record that sixteen bytes give is one of the trace
 pub present : (bytes : List ℕ) (i : ℕ) (r : Record) → Some r ≡ decoded (take 16 (drop (i * 16) bytes)) → i < records_in bytes
 present bytes i r e = elim (leb_tells (records_in bytes) i) [
-  | inl beyond ↦ absurd (not_some (e ∙ too_short _ (past_records bytes i beyond.1)))
+  | inl beyond ↦ absurd (none-some r (sym (e ∙ too_short _ (past_records bytes i beyond.1))))
   | inr here ↦ here.1
 ]
 
@@ -219,7 +219,7 @@ module _ (processors : ℕ) (bytes : List ℕ) (sound : wrong_from processors 0 
   request_same i r h e = ap (λ o. when_some o (λ x. x.request) r.request) (e ∙ (known processors no_record bytes sound i h).given)
 
   pub request_there : (i : ℕ) → i < records_in bytes → None ≡ decoded (take 16 (drop (i * 16) bytes)) → ⊥
-  request_there i h e = not_some (sym (e ∙ (known processors no_record bytes sound i h).given))
+  request_there i h e = none-some _ (e ∙ (known processors no_record bytes sound i h).given)
 
 pub few_records : (t : Trace) → length (records_of t.records.now) ≤ 1048576
 few_records t = omega (arith, t.few, many t.processors t.records.now t.sound t.served.1)
