@@ -54,7 +54,7 @@ next_at bytes p from low =
     by_lowest bytes p from (lowest_from (is_of p bytes) from (records_in bytes - from)) low (lowest_tells (is_of p bytes) (records_in bytes - from) from)
 
 -- a record that sixteen bytes give is one of the trace
-pub present : (bytes : List ℕ) (i : ℕ) (r : Record) → Some r ≡ decoded (take 16 (drop (i * 16) bytes)) → i < records_in bytes
+present : (bytes : List ℕ) (i : ℕ) (r : Record) → Some r ≡ decoded (take 16 (drop (i * 16) bytes)) → i < records_in bytes
 present bytes i r e = elim (leb_tells (records_in bytes) i) [
   | inl beyond ↦ absurd (none-some r (sym (e ∙ too_short _ (past_records bytes i beyond.1))))
   | inr here ↦ here.1
@@ -217,6 +217,10 @@ module _ (processors : ℕ) (bytes : List ℕ) (sound : wrong_from processors 0 
   -- the record that sixteen bytes give
   pub request_same : (i : ℕ) (r : Record) → i < records_in bytes → Some r ≡ decoded (take 16 (drop (i * 16) bytes)) → r.request ≡ request_at recs i
   request_same i r h e = ap (λ o. when_some o (λ x. x.request) r.request) (e ∙ (known processors no_record bytes sound i h).given)
+
+  pub record_there : (i : ℕ) (r : Record) → Some r ≡ decoded (take 16 (drop (i * 16) bytes))
+      → (i < records_in bytes) × (r.request ≡ request_at recs i)
+  record_there i r e = let inside = present bytes i r e in (inside, request_same i r inside e)
 
   pub request_there : (i : ℕ) → i < records_in bytes → None ≡ decoded (take 16 (drop (i * 16) bytes)) → ⊥
   request_there i h e = none-some _ (e ∙ (known processors no_record bytes sound i h).given)
