@@ -2,6 +2,7 @@
 use Rattle.std.proofs.Common.{◌≡◌, ℕ, suc, ◌+◌, ◌*◌, ◌%◌, ◌<◌, ◌≤◌, Bool, true, false, cond, not, ◌&&◌, eqb, ltb, leb, List, length, get_or, set, is_some, Some, None, Option, sym, refl, ap, ◌∙◌, inl, inr, mul-le-mul_right, suc-mul, arith}
 use Rattle.std.specs.List.{count_by}
 use Rattle.std.proofs.lemmas.List.Sums.{sum_by-set}
+use Rattle.std.proofs.lemmas.Bool.{cond_both}
 use Rattle.std.proofs.lemmas.Bool.Decides.{eqb_tells, nat_tests}
 use Rattle.protocol.specs.declared.command.Command.{Command}
 use Rattle.protocol.specs.declared.command.Command.TheVariants.{R, W, DW, RI, RP, RB, LR, UW, U}
@@ -59,20 +60,16 @@ abbrev held_after : Command → ℕ → ℕ → Ledger → ℕ → ℕ → Bool
 held_after c processor address l p a =
     cond (takes_lock c) (changed processor address true l p a) (cond (releases_lock c) (changed processor address false l p a) (l.holds p a))
 
-either : (b : Bool) (x y : Ledger) (h : Bool) (p a : ℕ) → x.holds p a ≡ h → y.holds p a ≡ h → (cond b x y).holds p a ≡ h
-either true x y h p a e f = e
-either false x y h p a e f = f
-
 done_holds : (l : Ledger) (c : Command) (processor address : ℕ) (b : Bool) (p a : ℕ) → (done_by processor address b c l).holds p a ≡ held_after c processor address l p a
 done_holds l R processor address b p a = refl
 done_holds l (W word) processor address b p a = refl
-done_holds l (DW word) processor address b p a = either (eqb (address % 4) 0) _ _ (l.holds p a) p a refl refl
+done_holds l (DW word) processor address b p a = cond_both (eqb (address % 4) 0) _ _ (λ (k : Ledger). k.holds p a ≡ l.holds p a) (λ e. refl) (λ e. refl)
 done_holds l RI processor address b p a = refl
 done_holds l RP processor address b p a = refl
-done_holds l RB processor address b p a = either (eqb (address % 4) 3) _ _ (l.holds p a) p a refl refl
+done_holds l RB processor address b p a = cond_both (eqb (address % 4) 3) _ _ (λ (k : Ledger). k.holds p a ≡ l.holds p a) (λ e. refl) (λ e. refl)
 done_holds l LR processor address b p a = refl
-done_holds l (UW word) processor address b p a = either b _ _ (changed processor address false l p a) p a refl refl
-done_holds l U processor address b p a = either b _ _ (changed processor address false l p a) p a refl refl
+done_holds l (UW word) processor address b p a = cond_both b _ _ (λ (k : Ledger). k.holds p a ≡ changed processor address false l p a) (λ e. refl) (λ e. refl)
+done_holds l U processor address b p a = cond_both b _ _ (λ (k : Ledger). k.holds p a ≡ changed processor address false l p a) (λ e. refl) (λ e. refl)
 
 module _ (m : Measures) (locks : List LockEntry) (fit : length locks ≡ lock_count m) where
   abbrev pub held_in : List LockEntry → ℕ → ℕ → ℕ

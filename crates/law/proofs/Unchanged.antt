@@ -52,9 +52,6 @@ costed_calm m (Ok n) = refl
 costed_calm m (Err e) = refl
 
 module _ (m : Measures) (b : Board) where
-  abbrev after_drain : DrainOutcome → Board
-  after_drain d = record { processors = b.processors; lines = d.lines; locks = b.locks; memory = d.memory }
-
   drain_unchanged : refused (said_by m b drain) ≡ true → left_by m b drain ≡ b
   unfolding drain_rule
   drain_unchanged h = by_fit (lines_fit m b.lines) refl

@@ -49,7 +49,7 @@ module _ (m : Measures) (records : List Record) where
     by_due (Some i) step e value after less =
         one_step first s s' fuel i step e (ap (λ o. when_some o (λ x. x) step) value) after here less
 
-    pub going_on : (step : Step) → Some step ≡ option_map (shown m records s) (due m records s)
+    going_on : (step : Step) → Some step ≡ option_map (shown m records s) (due m records s)
         → s' ≡ when_some (due m records s) (stepped m records s) s → to_go m records s' < to_go m records s
         → Further first s s' fuel step
     going_on step value after less = by_due (due m records s) step refl value after less
@@ -59,7 +59,7 @@ module _ (m : Measures) (records : List Record) where
     none_due None e = refl
     none_due (Some i) e = absurd (cc)
 
-    pub no_step : None ≡ option_map (shown m records s) (due m records s) → due m records s ≡ None
+    no_step : None ≡ option_map (shown m records s) (due m records s) → due m records s ≡ None
     no_step e = none_due (due m records s) e
 
     at_rest : (n : ℕ) → due m records s ≡ None → run_from m records n s ≡ s
@@ -67,10 +67,10 @@ module _ (m : Measures) (records : List Record) where
     at_rest zero e = refl
     at_rest (suc n) e = rw e refl
 
-    pub at_end : due m records s ≡ None → s ≡ ran m records first
+    at_end : due m records s ≡ None → s ≡ ran m records first
     at_end e = sym (at_rest fuel e) ∙ here.same_end
 
-    pub no_more_steps : (n : ℕ) → due m records s ≡ None → steps_from m records n s ≡ []
+    no_more_steps : (n : ℕ) → due m records s ≡ None → steps_from m records n s ≡ []
     unfolding steps_from
     no_more_steps zero e = refl
     no_more_steps (suc n) e = rw e refl

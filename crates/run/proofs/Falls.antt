@@ -71,7 +71,7 @@ module _ (u : ℕ → Bool) (i : ℕ) (is : u i ≡ true) where
         rw (gone, was) (omega (arith, rest))
   ]
 
-  pub left_falls : (n : ℕ) → i < n → how_many without 0 n + 1 ≡ how_many u 0 n
+  left_falls : (n : ℕ) → i < n → how_many without 0 n + 1 ≡ how_many u 0 n
   left_falls n h = one_less n 0 (omega arith) (omega (arith, h))
 
 module _ (m : Measures) (ps : List Processor) (lines : List Line) (locks : List LockEntry) (mem : Mem) (q : Request) where
@@ -86,29 +86,25 @@ module _ (m : Measures) (ps : List Processor) (lines : List Line) (locks : List 
       by_tables false e beyond = rw e refl
       by_tables true e beyond = rw (e, beyond) refl
 
-pub less_left : (n many fewer before after : ℕ) → fewer + 1 ≡ many → after ≤ before + (n - 1) → 1 ≤ n → n * fewer + after < n * many + before
+less_left : (n many fewer before after : ℕ) → fewer + 1 ≡ many → after ≤ before + (n - 1) → 1 ≤ n → n * fewer + after < n * many + before
 less_left n many fewer before after one few some =
     let grown : n * many ≡ n * fewer + n = ap (λ x. n * x) (sym one) ∙ omega (arith, mul-suc n fewer) in
     omega (arith, grown)
 
-pub idle_rise : (n : ℕ) (ps qs : List Processor) (p : ℕ) → p < n → p < length ps → (get_or ps p resting).waits_for ≡ None → idle n qs ≤ idle n ps + (n - 1)
+idle_rise : (n : ℕ) (ps qs : List Processor) (p : ℕ) → p < n → p < length ps → (get_or ps p resting).waits_for ≡ None → idle n qs ≤ idle n ps + (n - 1)
 idle_rise n ps qs p h k e =
     let some = idle_some n ps p h k e in
     let most = idle_most n qs in
     omega (arith, some, most)
 
-pub cost_low : (r : Result Answer Refusal) → IfOk r (λ a. cycles_in a ≤ 4000) → cost_of r ≤ 4000
-cost_low (Ok answer) h = h
-cost_low (Err refusal) h = omega arith
-
-pub wait_falls : (n : ℕ) (r : Result Answer Refusal) (ps qs : List Processor) → finishes_record r ≡ false → FewerIdle n r ps qs → idle n qs < idle n ps
+wait_falls : (n : ℕ) (r : Result Answer Refusal) (ps qs : List Processor) → finishes_record r ≡ false → FewerIdle n r ps qs → idle n qs < idle n ps
 wait_falls n (Ok (Done done)) ps qs e h = absurd (cc)
 wait_falls n (Ok (Wait hit)) ps qs e h = h
 wait_falls n (Err refusal) ps qs e h = absurd (cc)
 
 -- what is due, and what a step leaves of it
 module _ (m : Measures) (records : List Record) (s : Running) where
-  pub due_tells : (i : ℕ) → due m records s ≡ Some i → (i < length records) × (may_step m records s i ≡ true)
+  due_tells : (i : ℕ) → due m records s ≡ Some i → (i < length records) × (may_step m records s i ≡ true)
   unfolding due
   due_tells i e = by_found (lowest_from (may_step m records s) 0 (length records)) (lowest_tells (may_step m records s) (length records) 0) e
     where

@@ -28,7 +28,7 @@ use Rattle.run.specs.Running.{Running, how_many, no_record, request_at, due, sum
 pub record NextAt (bytes : List ℕ) (p from x : ℕ) : Type 0 where
   pub later : from ≤ x
   pub most : x ≤ records_in bytes
-  pub own : x < records_in bytes → is_of p bytes x ≡ true
+  own : x < records_in bytes → is_of p bytes x ≡ true
   pub least : (j : ℕ) → from ≤ j → j < records_in bytes → is_of p bytes j ≡ true → x ≤ j
 
 by_lowest : (bytes : List ℕ) (p from : ℕ) (o : Option ℕ) → from ≤ records_in bytes → Lowest (is_of p bytes) from (records_in bytes - from) o
@@ -49,7 +49,7 @@ by_lowest bytes p from (Some x) low h = record {
   ];
 }
 
-pub next_at : (bytes : List ℕ) (p from : ℕ) → from ≤ records_in bytes → NextAt bytes p from (next_of p from bytes)
+next_at : (bytes : List ℕ) (p from : ℕ) → from ≤ records_in bytes → NextAt bytes p from (next_of p from bytes)
 next_at bytes p from low =
     by_lowest bytes p from (lowest_from (is_of p bytes) from (records_in bytes - from)) low (lowest_tells (is_of p bytes) (records_in bytes - from) from)
 
@@ -76,7 +76,7 @@ module _ (processors : ℕ) (bytes : List ℕ) (sound : wrong_from processors 0 
   of : (p i : ℕ) → i < records_in bytes → is_of p bytes i ≡ eqb (who i) p
   of p i h = ap (λ x. eqb x p) (known_processor processors no_record bytes sound i h)
 
-  pub own : (p i : ℕ) → i < records_in bytes → is_of p bytes i ≡ true → who i ≡ p
+  own : (p i : ℕ) → i < records_in bytes → is_of p bytes i ≡ true → who i ≡ p
   own p i h is = let same : eqb (who i) p ≡ true = sym (of p i h) ∙ is in grind (arith, nat_tests)
 
   is_own : (i : ℕ) → i < records_in bytes → is_of (who i) bytes i ≡ true
@@ -192,7 +192,7 @@ module _ (processors : ℕ) (bytes : List ℕ) (sound : wrong_from processors 0 
               let below : j < length recs = grind (arith, nat_tests) in
               rw e (past j (omega (arith, below, many)))
 
-      pub settled_after : Settled bytes after
+      settled_after : Settled bytes after
       settled_after q h less = elim (eqb_tells q p) [
         | inl mine ↦
             let there : get_or after q 0 ≡ next_of p (i + 1) bytes = ap (λ x. get_or after x 0) mine.1 ∙ at_own in

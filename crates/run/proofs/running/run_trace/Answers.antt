@@ -5,7 +5,7 @@ use Rattle.run.specs.Kept.{records_for, state_of}
 use Rattle.run.specs.Running.{due, started, ran, end_of, summary_of}
 use Rattle.run.proofs.Ends.{start_few}
 use Rattle.run.proofs.Turns.{few_records, summed}
-use Rattle.run.proofs.Runs.{tables_unfit, tables_fit_lem, not_read, read_and_run, ended}
+use Rattle.run.proofs.Runs.{read_and_run, ended}
 use Rattle.run.proofs.running.run_trace.Goals as goal
 
 pub finish-requires : goal.finish-requires
@@ -31,9 +31,8 @@ returns g c =
     let t = c.in_ok-read.field-0 in
     let content = content_of t.processors t.records.now in
     let recs = content.records in
-    let fits = tables_fit_lem m ps lines locks mem bytes c.in_ok-check_tables.field-0 c.in_ok-check_tables.ensures in
     let value = c.in_ok-read.ensures.value in
-    let rule = read_and_run m ps lines locks mem bytes content fits value in
+    let rule = read_and_run m ps lines locks mem bytes c.in_ok-check_tables.field-0 content c.in_ok-check_tables.ensures value in
     let run = c.start-run.result in
     let told = c.start-run.ensures in
     let alike : records_for run ≡ recs = ap (λ x. records_of x.records.now) told.trace in
