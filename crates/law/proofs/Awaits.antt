@@ -1,6 +1,7 @@
 -- Who waits: the cluster's processors and the ledger agree.
 use Rattle.std.proofs.Common.{◌≡◌, ℕ, zero, suc, ◌+◌, ◌/◌, ◌%◌, ◌<◌, ◌≤◌, Bool, true, false, cond, ◌&&◌, eqb, ltb, leb, ◌⊎◌, List, [], ◌∷◌, length, get_or, set, Some, None, Option, sym, refl, ap, ◌∙◌, inl, inr, arith}
 use Rattle.std.proofs.lemmas.List.{get_or-set_same, get_or-set_other}
+use Rattle.std.proofs.lemmas.Bool.{cond_both}
 use Rattle.std.proofs.lemmas.Bool.Decides.{eqb_tells, nat_tests}
 use Rattle.protocol.specs.declared.command.Command.{Command}
 use Rattle.protocol.specs.declared.command.Command.TheVariants.{R, W, DW, RI, RP, RB, LR, UW, U}
@@ -73,10 +74,6 @@ at_after m ps locks c taken r = by_ul (ul_sent c.command locks c.entry) refl
     by_ul false e = rw e (at_turns m ps c taken r)
 
 -- what a done command leaves of the waits in the ledger
-either : (b : Bool) (x y : Ledger) (w : ℕ → Option ℕ) (r : ℕ) → x.waits r ≡ w r → y.waits r ≡ w r → (cond b x y).waits r ≡ w r
-either true x y w r e f = e
-either false x y w r e f = f
-
 released_waits : (l : Ledger) (processor address r : ℕ) (b : Bool) → (released processor address b l).waits r ≡ cond b (wake (address / 4) (l.waits r)) (l.waits r)
 released_waits l processor address r true = refl
 released_waits l processor address r false = refl
@@ -85,10 +82,10 @@ done_waits : (l : Ledger) (c : Command) (processor address r : ℕ) (b : Bool)
     → (done_by processor address b c l).waits r ≡ cond (releases_lock c && b) (wake (address / 4) (l.waits r)) (l.waits r)
 done_waits l R processor address r b = refl
 done_waits l (W word) processor address r b = refl
-done_waits l (DW word) processor address r b = either (eqb (address % 4) 0) _ _ l.waits r refl refl
+done_waits l (DW word) processor address r b = cond_both (eqb (address % 4) 0) _ _ (λ (k : Ledger). k.waits r ≡ l.waits r) (λ e. refl) (λ e. refl)
 done_waits l RI processor address r b = refl
 done_waits l RP processor address r b = refl
-done_waits l RB processor address r b = either (eqb (address % 4) 3) _ _ l.waits r refl refl
+done_waits l RB processor address r b = cond_both (eqb (address % 4) 3) _ _ (λ (k : Ledger). k.waits r ≡ l.waits r) (λ e. refl) (λ e. refl)
 done_waits l LR processor address r b = refl
 done_waits l (UW word) processor address r b = released_waits (entered address word l) processor address r b
 done_waits l U processor address r b = released_waits l processor address r b

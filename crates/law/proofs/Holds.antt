@@ -2,6 +2,7 @@
 use Rattle.std.proofs.Common.{◌≡◌, ℕ, suc, ◌+◌, ◌*◌, ◌%◌, ◌<◌, ◌≤◌, Bool, true, false, cond, not, ◌&&◌, eqb, ltb, leb, List, length, get_or, set, is_some, Some, None, Option, sym, refl, ap, ◌∙◌, inl, inr, mul-le-mul_right, suc-mul, arith}
 use Rattle.std.specs.List.{count_by}
 use Rattle.std.proofs.lemmas.List.Sums.{sum_by-set}
+use Rattle.std.proofs.lemmas.Bool.{cond_both}
 use Rattle.std.proofs.lemmas.Bool.Decides.{eqb_tells, nat_tests}
 use Rattle.protocol.specs.declared.command.Command.{Command}
 use Rattle.protocol.specs.declared.command.Command.TheVariants.{R, W, DW, RI, RP, RB, LR, UW, U}
@@ -31,7 +32,7 @@ unused_seen : (a : ℕ) (e : LockEntry) → unused in_use e ≡ true → locks_f
 unused_seen a e h = by_use (in_use e) h
   where
     by_use : (b : Bool) → not b ≡ true → (b && leb a e.address && leb e.address a) ≡ false
-    by_use true h = let no_way : ◌≡◌ {A = ℕ} 0 1 = cc in absurd (omega (arith, no_way))
+    by_use true h = absurd (cc)
     by_use false h = refl
 
 held_seen : (a address : ℕ) (e : LockEntry) → locks_from address address e ≡ true → locks_from a a e ≡ eqb a address
@@ -39,7 +40,7 @@ held_seen a address e h = by_use (in_use e) h
   where
     by_use : (b : Bool) → (b && leb address e.address && leb e.address address) ≡ true → (b && leb a e.address && leb e.address a) ≡ eqb a address
     by_use true h = grind (arith, nat_tests)
-    by_use false h = let no_way : ◌≡◌ {A = ℕ} 0 1 = cc in absurd (omega (arith, no_way))
+    by_use false h = absurd (cc)
 
 waited_seen : (m : Measures) (asking block a i : ℕ) (e : LockEntry) → locks_from a a (waited_at m asking block i e) ≡ locks_from a a e
 waited_seen m asking block a i e = by_own (own_entry m asking i) (in_use e) (leb (4 * block) e.address) (leb e.address (4 * block + 3)) refl
@@ -59,20 +60,16 @@ abbrev held_after : Command → ℕ → ℕ → Ledger → ℕ → ℕ → Bool
 held_after c processor address l p a =
     cond (takes_lock c) (changed processor address true l p a) (cond (releases_lock c) (changed processor address false l p a) (l.holds p a))
 
-either : (b : Bool) (x y : Ledger) (h : Bool) (p a : ℕ) → x.holds p a ≡ h → y.holds p a ≡ h → (cond b x y).holds p a ≡ h
-either true x y h p a e f = e
-either false x y h p a e f = f
-
 done_holds : (l : Ledger) (c : Command) (processor address : ℕ) (b : Bool) (p a : ℕ) → (done_by processor address b c l).holds p a ≡ held_after c processor address l p a
 done_holds l R processor address b p a = refl
 done_holds l (W word) processor address b p a = refl
-done_holds l (DW word) processor address b p a = either (eqb (address % 4) 0) _ _ (l.holds p a) p a refl refl
+done_holds l (DW word) processor address b p a = cond_both (eqb (address % 4) 0) _ _ (λ (k : Ledger). k.holds p a ≡ l.holds p a) (λ e. refl) (λ e. refl)
 done_holds l RI processor address b p a = refl
 done_holds l RP processor address b p a = refl
-done_holds l RB processor address b p a = either (eqb (address % 4) 3) _ _ (l.holds p a) p a refl refl
+done_holds l RB processor address b p a = cond_both (eqb (address % 4) 3) _ _ (λ (k : Ledger). k.holds p a ≡ l.holds p a) (λ e. refl) (λ e. refl)
 done_holds l LR processor address b p a = refl
-done_holds l (UW word) processor address b p a = either b _ _ (changed processor address false l p a) p a refl refl
-done_holds l U processor address b p a = either b _ _ (changed processor address false l p a) p a refl refl
+done_holds l (UW word) processor address b p a = cond_both b _ _ (λ (k : Ledger). k.holds p a ≡ changed processor address false l p a) (λ e. refl) (λ e. refl)
+done_holds l U processor address b p a = cond_both b _ _ (λ (k : Ledger). k.holds p a ≡ changed processor address false l p a) (λ e. refl) (λ e. refl)
 
 module _ (m : Measures) (locks : List LockEntry) (fit : length locks ≡ lock_count m) where
   abbrev pub held_in : List LockEntry → ℕ → ℕ → ℕ
@@ -221,17 +218,17 @@ module _ (m : Measures) (locks : List LockEntry) (fit : length locks ≡ lock_co
     settled LR e x y z p listed a = rw e (by_free (free_entry m locks p0) refl y)
       where
         by_free : (o : Option ℕ) → free_entry m locks p0 ≡ o → not (is_some o) ≡ false → held_in (locks_settled LR a0 locks o) p a ≡ cond (changed p0 a0 true l p a) 1 0
-        by_free None same h = let no_way : ◌≡◌ {A = ℕ} 0 1 = cc in absurd (omega (arith, no_way))
+        by_free None same h = absurd (cc)
         by_free (Some place) same h = took place same x p listed a
     settled (UW word) e x y z p listed a = rw e (by_held (held_entry m locks p0 a0) refl z)
       where
         by_held : (o : Option ℕ) → held_entry m locks p0 a0 ≡ o → not (is_some o) ≡ false → held_in (locks_settled (UW word) a0 locks o) p a ≡ cond (changed p0 a0 false l p a) 1 0
-        by_held None same h = let no_way : ◌≡◌ {A = ℕ} 0 1 = cc in absurd (omega (arith, no_way))
+        by_held None same h = absurd (cc)
         by_held (Some place) same h = gave place same p listed a
     settled U e x y z p listed a = rw e (by_held (held_entry m locks p0 a0) refl z)
       where
         by_held : (o : Option ℕ) → held_entry m locks p0 a0 ≡ o → not (is_some o) ≡ false → held_in (locks_settled U a0 locks o) p a ≡ cond (changed p0 a0 false l p a) 1 0
-        by_held None same h = let no_way : ◌≡◌ {A = ℕ} 0 1 = cc in absurd (omega (arith, no_way))
+        by_held None same h = absurd (cc)
         by_held (Some place) same h = gave place same p listed a
 
 module _ (m : Measures) (ps : List Processor) (lines : List Line) (locks : List LockEntry) (mem : Mem) (q : Request) (l : Ledger)

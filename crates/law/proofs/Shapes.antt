@@ -25,12 +25,9 @@ use Rattle.cluster.specs.Refusing.{is_direct_write, entry_used, unless_checked, 
 use Rattle.cluster.specs.Rule.{Outcome, unless_err, unless_some, refusing, waiting, finishing, swapping, supplying, proceeding, meeting, command_rule}
 use Rattle.cluster.specs.Settling.{takes_lock, releases_lock}
 
-not_ok : {X : Type 0} {x : X} {e : Refusal} → Err e ≡ Ok x → ⊥
-not_ok h = let no_way : ◌≡◌ {A = ℕ} 0 1 = cc in omega (arith, no_way)
-
 -- a test that did not refuse
 passed : {X : Type 0} (b : Bool) (e : Refusal) (rest : Result X Refusal) (x : X) → cond b (Err e) rest ≡ Ok x → (b ≡ false) × (rest ≡ Ok x)
-passed true e rest x h = absurd (not_ok h)
+passed true e rest x h = absurd (cc)
 passed false e rest x h = (refl, h)
 
 module _ (m : Measures) (ps : List Processor) (lines : List Line) (locks : List LockEntry) (mem : Mem) (q : Request) where
@@ -78,7 +75,7 @@ module _ (m : Measures) (ps : List Processor) (lines : List Line) (locks : List 
     pub is : c ≡ met effect
 
   by_cell : (c : Case) (cell : Option Effect) → cell_of action_of found ≡ cell → unless_checked found cell met ≡ Ok c → (e : Effect) × (cell_of action_of found ≡ Some e) × (c ≡ met e)
-  by_cell c None same h = absurd (not_ok h)
+  by_cell c None same h = absurd (cc)
   by_cell c (Some e) same h = (e, same, ap (λ r. case_or r) (sym h))
     where
       case_or : Result Case Refusal → Case

@@ -14,11 +14,9 @@ use Rattle.upkeep.specs.Counting.{lines_fit}
 use Rattle.upkeep.specs.Draining.{DrainOutcome, behind, written_back, memory_back, unless_stopped, drain_from, costed, drain_rule}
 use Rattle.law.specs.Calls.{command, drain, census, question, answered, Board, command_on, said_by, left_by}
 use Rattle.law.specs.Refusals.{refused_at_once, refused, RefusalsChangeNothing}
+use Rattle.std.proofs.lemmas.Bool.{false≢true}
 use Rattle.law.proofs.Shapes as shapes
 use Rattle.law.proofs.Shapes.{Shape, shape}
-
-not_both : false ≡ true → ⊥
-not_both h = let no_way : ◌≡◌ {A = ℕ} 0 1 = cc in omega (arith, no_way)
 
 module _ (m : Measures) (b : Board) where
   abbrev board_of : Outcome → Board
@@ -26,8 +24,8 @@ module _ (m : Measures) (b : Board) where
 
   by_shape : (q : Request) (o : Outcome) → Shape m b.processors b.lines b.locks b.memory q o → refused (answered o.answer) ≡ true → board_of o ≡ b
   by_shape q o (shapes.refused e is) h = ap board_of is
-  by_shape q o (shapes.waited w) h = absurd (not_both (ap (λ x. refused (answered x.answer)) (sym w.is) ∙ h))
-  by_shape q o (shapes.finished f) h = absurd (not_both (ap (λ x. refused (answered x.answer)) (sym f.is) ∙ h))
+  by_shape q o (shapes.waited w) h = absurd (false≢true (ap (λ x. refused (answered x.answer)) (sym w.is) ∙ h))
+  by_shape q o (shapes.finished f) h = absurd (false≢true (ap (λ x. refused (answered x.answer)) (sym f.is) ∙ h))
 
 -- only memory stops a drain that has begun
 back_calm : (mem : Mem) (line : Line) → refused_at_once (written_back mem line) ≡ false
@@ -54,16 +52,13 @@ costed_calm m (Ok n) = refl
 costed_calm m (Err e) = refl
 
 module _ (m : Measures) (b : Board) where
-  abbrev after_drain : DrainOutcome → Board
-  after_drain d = record { processors = b.processors; lines = d.lines; locks = b.locks; memory = d.memory }
-
   drain_unchanged : refused (said_by m b drain) ≡ true → left_by m b drain ≡ b
   unfolding drain_rule
   drain_unchanged h = by_fit (lines_fit m b.lines) refl
     where
       by_fit : (f : Bool) → lines_fit m b.lines ≡ f → left_by m b drain ≡ b
       by_fit false e = rw e refl
-      by_fit true e = absurd (not_both (sym (costed_calm m (drain_from 0 b.lines b.memory).answer ∙ calm b.lines 0 b.memory) ∙ (rw e at h)))
+      by_fit true e = absurd (false≢true (sym (costed_calm m (drain_from 0 b.lines b.memory).answer ∙ calm b.lines 0 b.memory) ∙ (rw e at h)))
 
 pub unchanged : RefusalsChangeNothing
 unchanged m b (command q) h = by_shape m b q (command_on m b q) (shape m b.processors b.lines b.locks b.memory q) h

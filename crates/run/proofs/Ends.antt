@@ -1,10 +1,11 @@
 -- A run comes to its end.
 use Rattle.std.proofs.Common.{◌≡◌, ℕ, zero, suc, ◌+◌, ◌*◌, ◌<◌, ◌≤◌, Bool, true, false, cond, List, [], ◌∷◌, length, is_some, OnSome, Some, None, Option, sym, refl, ap, subst, ◌∙◌, mul-le-mul_right, arith}
 use Rattle.std.specs.Option.{option_map}
+use Rattle.protocol.specs.declared.geometry.Geometry.{Geometry}
 use Rattle.protocol.specs.declared.measures.Measures.{Measures}
 use Rattle.trace.specs.declared.record.Record.{Record}
-use Rattle.trace.specs.Traces.{when_some}
-use Rattle.trace.proofs.Puts.{not_some}
+use Rattle.trace.specs.declared.trace.Trace.{Trace}
+use Rattle.trace.specs.Traces.{records_of, when_some}
 use Rattle.text.specs.declared.step.Step.{Step}
 use Rattle.run.specs.Kept.{Going}
 use Rattle.run.specs.Running.{Running, how_many, due, stepped, shown, left, to_go, run_from, steps_from, ran}
@@ -44,11 +45,11 @@ module _ (m : Measures) (records : List Record) where
   module _ (first s s' : Running) (fuel : ℕ) (here : Going m records first s fuel) where
     by_due : (o : Option ℕ) (step : Step) → due m records s ≡ o → Some step ≡ option_map (shown m records s) o → s' ≡ when_some o (stepped m records s) s
         → to_go m records s' < to_go m records s → Further first s s' fuel step
-    by_due None step e value after less = absurd (not_some value)
+    by_due None step e value after less = absurd (cc)
     by_due (Some i) step e value after less =
         one_step first s s' fuel i step e (ap (λ o. when_some o (λ x. x) step) value) after here less
 
-    pub going_on : (step : Step) → Some step ≡ option_map (shown m records s) (due m records s)
+    going_on : (step : Step) → Some step ≡ option_map (shown m records s) (due m records s)
         → s' ≡ when_some (due m records s) (stepped m records s) s → to_go m records s' < to_go m records s
         → Further first s s' fuel step
     going_on step value after less = by_due (due m records s) step refl value after less
@@ -56,9 +57,9 @@ module _ (m : Measures) (records : List Record) where
   module _ (first s : Running) (fuel : ℕ) (here : Going m records first s fuel) where
     none_due : (o : Option ℕ) → None ≡ option_map (shown m records s) o → o ≡ None
     none_due None e = refl
-    none_due (Some i) e = absurd (not_some (sym e))
+    none_due (Some i) e = absurd (cc)
 
-    pub no_step : None ≡ option_map (shown m records s) (due m records s) → due m records s ≡ None
+    no_step : None ≡ option_map (shown m records s) (due m records s) → due m records s ≡ None
     no_step e = none_due (due m records s) e
 
     at_rest : (n : ℕ) → due m records s ≡ None → run_from m records n s ≡ s
@@ -66,54 +67,63 @@ module _ (m : Measures) (records : List Record) where
     at_rest zero e = refl
     at_rest (suc n) e = rw e refl
 
-    pub at_end : due m records s ≡ None → s ≡ ran m records first
+    at_end : due m records s ≡ None → s ≡ ran m records first
     at_end e = sym (at_rest fuel e) ∙ here.same_end
 
-    pub no_more_steps : (n : ℕ) → due m records s ≡ None → steps_from m records n s ≡ []
+    no_more_steps : (n : ℕ) → due m records s ≡ None → steps_from m records n s ≡ []
     unfolding steps_from
     no_more_steps zero e = refl
     no_more_steps (suc n) e = rw e refl
 
-  -- what a call of the step tells of one step, by measures and records that are those of the run
-  module _ (m' : Measures) (records' : List Record) (same : m' ≡ m) (alike : records' ≡ records) (first s s' : Running) (fuel : ℕ)
-      (here : Going m records first s fuel) where
-    abbrev shows : Option Step → Measures → List Record → Type 0
-    shows step x rs = step ≡ option_map (shown x rs s) (due x rs s)
+-- what a call of the step tells of one step, by a cluster and a trace that are still those of the start
+module _ (g g' : Geometry) (t t' : Trace) (same : g' ≡ g) (alike : t' ≡ t) (first s s' : Running) (fuel : ℕ)
+    (here : Going g.measures (records_of t.records.now) first s fuel) where
+  abbrev m : Measures
+  m = g.measures
 
-    abbrev leaves : Measures → List Record → Type 0
-    leaves x rs = s' ≡ when_some (due x rs s) (stepped x rs s) s
+  abbrev recs : List Record
+  recs = records_of t.records.now
 
-    abbrev falls : Measures → List Record → Type 0
-    falls x rs = to_go x rs s' < to_go x rs s
+  abbrev shows : Option Step → Geometry → Trace → Type 0
+  shows step h u = step ≡ option_map (shown h.measures (records_of u.records.now) s) (due h.measures (records_of u.records.now) s)
 
-    moved : (P : Measures → List Record → Type 0) → P m' records' → P m records
-    moved P told = subst (λ x. P x records) same (subst (P m') alike told)
+  abbrev leaves : Geometry → Trace → Type 0
+  leaves h u = s' ≡ when_some (due h.measures (records_of u.records.now) s) (stepped h.measures (records_of u.records.now) s) s
 
-    pub goes_on : (step : Step) → shows (Some step) m' records' → leaves m' records' → falls m' records' → Further first s s' fuel step
-    goes_on step value told less =
-        going_on first s s' fuel here step (moved (shows (Some step)) value) (moved leaves told) (moved falls less)
+  abbrev falls : Geometry → Trace → Type 0
+  falls h u = to_go h.measures (records_of u.records.now) s' < to_go h.measures (records_of u.records.now) s
 
-    pub record Stopped : Type 0 where
-      pub none : due m records s ≡ None
-      pub stays : s' ≡ s
-      pub end : s' ≡ ran m records first
-      pub no_more : steps_from m records fuel s ≡ []
+  moved : (P : Geometry → Trace → Type 0) → P g' t' → P g t
+  moved P told = subst (λ h. P h t) same (subst (P g') alike told)
 
-    pub stops : shows None m' records' → leaves m' records' → Stopped
-    stops value told =
-        let none = no_step first s fuel here (moved (shows None) value) in
-        let stays = moved leaves told ∙ ap (λ o. when_some o (stepped m records s) s) none in
-        record { none = none; stays = stays; end = stays ∙ at_end first s fuel here none; no_more = no_more_steps first s fuel here fuel none }
+  pub goes_on : (step : Step) → shows (Some step) g' t' → leaves g' t' → falls g' t' → Further m recs first s s' fuel step
+  goes_on step value told less =
+      going_on m recs first s s' fuel here step (moved (shows (Some step)) value) (moved leaves told) (moved falls less)
 
-    -- the same, where it is only asked whether there was a step
-    pub on_some : (r : Option Step) → is_some r ≡ true → shows r m' records' → leaves m' records' → OnSome r (falls m' records')
-        → (rest : ℕ) × Going m records first s' rest
-    on_some None e value told less = let no_way : ◌≡◌ {A = ℕ} 0 1 = cc in absurd (omega (arith, no_way))
-    on_some (Some step) e value told less = let further = goes_on step value told less in (further.rest, further.going)
+  pub record Stopped : Type 0 where
+    pub none : due m recs s' ≡ None
+    pub end : s' ≡ ran m recs first
+    pub no_more : steps_from m recs fuel s ≡ []
 
-    pub on_none : (r : Option Step) → is_some r ≡ false → shows r m' records' → leaves m' records' → Stopped
-    on_none None e value told = stops value told
-    on_none (Some step) e value told = let no_way : ◌≡◌ {A = ℕ} 0 1 = cc in absurd (omega (arith, no_way))
+  pub stops : shows None g' t' → leaves g' t' → Stopped
+  stops value told =
+      let none = no_step m recs first s fuel here (moved (shows None) value) in
+      let stays = moved leaves told ∙ ap (λ o. when_some o (stepped m recs s) s) none in
+      record {
+        none = ap (due m recs) stays ∙ none;
+        end = stays ∙ at_end m recs first s fuel here none;
+        no_more = no_more_steps m recs first s fuel here fuel none;
+      }
+
+  -- the same, where it is only asked whether there was a step
+  pub on_some : (r : Option Step) → is_some r ≡ true → shows r g' t' → leaves g' t' → OnSome r (falls g' t')
+      → (rest : ℕ) × Going m recs first s' rest
+  on_some None e value told less = absurd (cc)
+  on_some (Some step) e value told less = let further = goes_on step value told less in (further.rest, further.going)
+
+  pub on_none : (r : Option Step) → is_some r ≡ false → shows r g' t' → leaves g' t' → Stopped
+  on_none None e value told = stops value told
+  on_none (Some step) e value told = absurd (cc)
 
 some_many : (test : ℕ → Bool) (n from : ℕ) → how_many test from n ≤ n
 some_many test zero from = omega arith

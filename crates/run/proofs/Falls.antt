@@ -22,7 +22,6 @@ use Rattle.cluster.specs.Waiting.{awaited_in, idle, FewerIdle}
 use Rattle.run.specs.Answered.{cost_of, finishes_record}
 use Rattle.trace.specs.declared.record.Record.{Record}
 use Rattle.trace.specs.Traces.{when_some}
-use Rattle.trace.proofs.Puts.{not_some}
 use Rattle.text.specs.declared.step.Step.{Step}
 use Rattle.run.specs.Running.{Running, how_many, request_at, may_step, due, outcome_at, stepped, shown, left, to_go}
 
@@ -72,7 +71,7 @@ module _ (u : ℕ → Bool) (i : ℕ) (is : u i ≡ true) where
         rw (gone, was) (omega (arith, rest))
   ]
 
-  pub left_falls : (n : ℕ) → i < n → how_many without 0 n + 1 ≡ how_many u 0 n
+  left_falls : (n : ℕ) → i < n → how_many without 0 n + 1 ≡ how_many u 0 n
   left_falls n h = one_less n 0 (omega arith) (omega (arith, h))
 
 module _ (m : Measures) (ps : List Processor) (lines : List Line) (locks : List LockEntry) (mem : Mem) (q : Request) where
@@ -87,45 +86,41 @@ module _ (m : Measures) (ps : List Processor) (lines : List Line) (locks : List 
       by_tables false e beyond = rw e refl
       by_tables true e beyond = rw (e, beyond) refl
 
-pub less_left : (n many fewer before after : ℕ) → fewer + 1 ≡ many → after ≤ before + (n - 1) → 1 ≤ n → n * fewer + after < n * many + before
+less_left : (n many fewer before after : ℕ) → fewer + 1 ≡ many → after ≤ before + (n - 1) → 1 ≤ n → n * fewer + after < n * many + before
 less_left n many fewer before after one few some =
     let grown : n * many ≡ n * fewer + n = ap (λ x. n * x) (sym one) ∙ omega (arith, mul-suc n fewer) in
     omega (arith, grown)
 
-pub idle_rise : (n : ℕ) (ps qs : List Processor) (p : ℕ) → p < n → p < length ps → (get_or ps p resting).waits_for ≡ None → idle n qs ≤ idle n ps + (n - 1)
+idle_rise : (n : ℕ) (ps qs : List Processor) (p : ℕ) → p < n → p < length ps → (get_or ps p resting).waits_for ≡ None → idle n qs ≤ idle n ps + (n - 1)
 idle_rise n ps qs p h k e =
     let some = idle_some n ps p h k e in
     let most = idle_most n qs in
     omega (arith, some, most)
 
-pub cost_low : (r : Result Answer Refusal) → IfOk r (λ a. cycles_in a ≤ 4000) → cost_of r ≤ 4000
-cost_low (Ok answer) h = h
-cost_low (Err refusal) h = omega arith
-
-pub wait_falls : (n : ℕ) (r : Result Answer Refusal) (ps qs : List Processor) → finishes_record r ≡ false → FewerIdle n r ps qs → idle n qs < idle n ps
-wait_falls n (Ok (Done done)) ps qs e h = let no_way : ◌≡◌ {A = ℕ} 0 1 = cc in omega arith
+wait_falls : (n : ℕ) (r : Result Answer Refusal) (ps qs : List Processor) → finishes_record r ≡ false → FewerIdle n r ps qs → idle n qs < idle n ps
+wait_falls n (Ok (Done done)) ps qs e h = absurd (cc)
 wait_falls n (Ok (Wait hit)) ps qs e h = h
-wait_falls n (Err refusal) ps qs e h = let no_way : ◌≡◌ {A = ℕ} 0 1 = cc in omega arith
+wait_falls n (Err refusal) ps qs e h = absurd (cc)
 
 -- what is due, and what a step leaves of it
 module _ (m : Measures) (records : List Record) (s : Running) where
-  pub due_tells : (i : ℕ) → due m records s ≡ Some i → (i < length records) × (may_step m records s i ≡ true)
+  due_tells : (i : ℕ) → due m records s ≡ Some i → (i < length records) × (may_step m records s i ≡ true)
   unfolding due
   due_tells i e = by_found (lowest_from (may_step m records s) 0 (length records)) (lowest_tells (may_step m records s) (length records) 0) e
     where
       by_found : (o : Option ℕ) → Lowest (may_step m records s) 0 (length records) o → o ≡ Some i → (i < length records) × (may_step m records s i ≡ true)
-      by_found None h none = absurd (not_some (sym none))
+      by_found None h none = absurd (cc)
       by_found (Some k) h some =
           let same : k ≡ i = ap (λ o. when_some o (λ x. x) 0) some in
           (let below = h.1 in omega (arith, below, same), ap (may_step m records s) (sym same) ∙ h.2)
 
   unfinished_due : (i : ℕ) (a b : Bool) → (a && b) ≡ true → (a ≡ true) × (b ≡ true)
   unfinished_due i true b e = (refl, e)
-  unfinished_due i false b e = let no_way : ◌≡◌ {A = ℕ} 0 1 = cc in absurd (omega (arith, no_way))
+  unfinished_due i false b e = absurd (cc)
 
   awake : (w : Option ℕ) → not (is_some w) ≡ true → w ≡ None
   awake None e = refl
-  awake (Some x) e = let no_way : ◌≡◌ {A = ℕ} 0 1 = cc in absurd (omega (arith, no_way))
+  awake (Some x) e = absurd (cc)
 
   module _ (s' : Running) (i : ℕ) (answer : Result Answer Refusal) (is-due : due m records s ≡ Some i)
       (after : s'.unfinished ≡ (λ j. s.unfinished j && not (finishes_record answer && eqb j i))) where

@@ -17,7 +17,7 @@ listing_lawful p low high = grind (arith, nat_tests, sixteen)
 
 made_ok : (r : Result Geometry Refusal) (m : Measures) → measured r ≡ Ok m → is_ok r ≡ true
 made_ok (Ok g) m e = refl
-made_ok (Err refusal) m e = let no_way : ◌≡◌ {A = ℕ} 0 1 = cc in grind arith
+made_ok (Err refusal) m e = absurd (cc)
 
 pub geometry_made : (r : Result Geometry Refusal) (m : Measures) (refusal : Refusal)
     → measured r ≡ cond (lawful m) (Ok m) (Err refusal) → lawful m ≡ true → is_ok r ≡ true

@@ -1,4 +1,4 @@
--- The ways of a run: refused, or run to its end.
+-- A run that is not refused.
 use Prim.{Unit, tt}
 use Rattle.std.proofs.Common.{◌≡◌, ℕ, Bool, true, false, cond, List, length, None, Ok, Err, Result, sym, refl, ap}
 use Rattle.protocol.specs.declared.line.Line.{Line}
@@ -10,41 +10,23 @@ use Rattle.memory.specs.Meaning.{Mem}
 use Rattle.cluster.specs.declared.cluster.Processor.{Processor}
 use Rattle.cluster.specs.Making.{tables_fit}
 use Rattle.trace.specs.Traces.{Content, trace_of}
-use Rattle.run.specs.Running.{not_run, ran_all, run_rule, Ended, due, end_of}
-
-abbrev why : {X : Type 0} → Refusal → Result X Refusal → Refusal
-why other (Ok x) = other
-why other (Err e) = e
+use Rattle.run.specs.Running.{ran_all, run_rule, Ended, due, end_of}
 
 module _ (m : Measures) (ps : List Processor) (lines : List Line) (locks : List LockEntry) (mem : Mem) (bytes : List ℕ) where
   abbrev fit : Bool
   fit = tables_fit m (length lines) (length locks)
 
-  abbrev checked : Bool → Result (Unit {0}) Refusal
-  checked b = cond b (Ok tt) (Err TableLength)
-
-  pub tables_unfit : (e : Refusal) → Err e ≡ checked fit → not_run m ps lines locks mem e ≡ run_rule m ps lines locks mem bytes
-  unfolding run_rule
-  tables_unfit e told = by_fit fit refl told
+  fits : (x : Unit {0}) → Ok x ≡ cond fit (Ok tt) (Err TableLength) → fit ≡ true
+  fits x told = by_fit fit told
     where
-      by_fit : (b : Bool) → fit ≡ b → Err e ≡ checked b → not_run m ps lines locks mem e ≡ run_rule m ps lines locks mem bytes
-      by_fit true same told = let no_way : ◌≡◌ {A = Bool} true false = cc in ap (λ b. cond b (run_rule m ps lines locks mem bytes) (not_run m ps lines locks mem e)) (sym no_way)
-      by_fit false same told = rw same (ap (not_run m ps lines locks mem) (ap (why e) told))
-
-  pub tables_fit_lem : (x : Unit {0}) → Ok x ≡ checked fit → fit ≡ true
-  tables_fit_lem x told = by_fit fit told
-    where
-      by_fit : (b : Bool) → Ok x ≡ checked b → b ≡ true
+      by_fit : (b : Bool) → ◌≡◌ {A = Result (Unit {0}) Refusal} (Ok x) (cond b (Ok tt) (Err TableLength)) → b ≡ true
       by_fit true told = refl
-      by_fit false told = let no_way : ◌≡◌ {A = Bool} false true = cc in no_way
+      by_fit false told = cc
 
-  pub not_read : (e : Refusal) → fit ≡ true → Err e ≡ trace_of bytes → not_run m ps lines locks mem e ≡ run_rule m ps lines locks mem bytes
+  pub read_and_run : (x : Unit {0}) (content : Content) → Ok x ≡ cond fit (Ok tt) (Err TableLength) → Ok content ≡ trace_of bytes
+      → ran_all m ps lines locks mem content.records ≡ run_rule m ps lines locks mem bytes
   unfolding run_rule
-  not_read e fits told = rw (fits, ← told) refl
-
-  pub read_and_run : (content : Content) → fit ≡ true → Ok content ≡ trace_of bytes → ran_all m ps lines locks mem content.records ≡ run_rule m ps lines locks mem bytes
-  unfolding run_rule
-  read_and_run content fits told = rw (fits, ← told) refl
+  read_and_run x content fit_told told = rw (fits x fit_told, ← told) refl
 
   pub ended : (content : Content) → Ok content ≡ trace_of bytes → due m content.records (end_of m ps lines locks mem content.records) ≡ None
       → Ended m ps lines locks mem (trace_of bytes)

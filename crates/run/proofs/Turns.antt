@@ -15,7 +15,7 @@ use Rattle.trace.specs.declared.trace.Trace.{Trace}
 use Rattle.trace.specs.Sizes.{records_in}
 use Rattle.trace.specs.Records.{decoded}
 use Rattle.trace.specs.Traces.{wrong_from, records_of, is_of, next_of, when_some}
-use Rattle.trace.proofs.Puts.{not_some}
+use Rattle.std.proofs.lemmas.Option.{none-some}
 use Rattle.trace.proofs.Reading.{too_short, past_records}
 use Rattle.trace.proofs.Copies.{records_many}
 use Rattle.trace.proofs.Known.{known, known_processor}
@@ -28,7 +28,7 @@ use Rattle.run.specs.Running.{Running, how_many, no_record, request_at, due, sum
 pub record NextAt (bytes : List ℕ) (p from x : ℕ) : Type 0 where
   pub later : from ≤ x
   pub most : x ≤ records_in bytes
-  pub own : x < records_in bytes → is_of p bytes x ≡ true
+  own : x < records_in bytes → is_of p bytes x ≡ true
   pub least : (j : ℕ) → from ≤ j → j < records_in bytes → is_of p bytes j ≡ true → x ≤ j
 
 by_lowest : (bytes : List ℕ) (p from : ℕ) (o : Option ℕ) → from ≤ records_in bytes → Lowest (is_of p bytes) from (records_in bytes - from) o
@@ -37,7 +37,7 @@ by_lowest bytes p from None low h = record {
   later = low;
   most = omega arith;
   own = λ less. absurd (omega (arith, less));
-  least = λ j a b is. let none = h j a (omega (arith, a, b, low)) in let no_way : ◌≡◌ {A = ℕ} 0 1 = cc in omega arith;
+  least = λ j a b is. let none = h j a (omega (arith, a, b, low)) in absurd (cc);
 }
 by_lowest bytes p from (Some x) low h = record {
   later = h.0;
@@ -45,18 +45,18 @@ by_lowest bytes p from (Some x) low h = record {
   own = λ less. h.2;
   least = λ j a b is. elim (leb_tells x j) [
     | inl fine ↦ fine.1
-    | inr less ↦ let none = h.3 j a less.1 in let no_way : ◌≡◌ {A = ℕ} 0 1 = cc in omega arith
+    | inr less ↦ let none = h.3 j a less.1 in absurd (cc)
   ];
 }
 
-pub next_at : (bytes : List ℕ) (p from : ℕ) → from ≤ records_in bytes → NextAt bytes p from (next_of p from bytes)
+next_at : (bytes : List ℕ) (p from : ℕ) → from ≤ records_in bytes → NextAt bytes p from (next_of p from bytes)
 next_at bytes p from low =
     by_lowest bytes p from (lowest_from (is_of p bytes) from (records_in bytes - from)) low (lowest_tells (is_of p bytes) (records_in bytes - from) from)
 
 -- a record that sixteen bytes give is one of the trace
-pub present : (bytes : List ℕ) (i : ℕ) (r : Record) → Some r ≡ decoded (take 16 (drop (i * 16) bytes)) → i < records_in bytes
+present : (bytes : List ℕ) (i : ℕ) (r : Record) → Some r ≡ decoded (take 16 (drop (i * 16) bytes)) → i < records_in bytes
 present bytes i r e = elim (leb_tells (records_in bytes) i) [
-  | inl beyond ↦ absurd (not_some (e ∙ too_short _ (past_records bytes i beyond.1)))
+  | inl beyond ↦ absurd (none-some r (sym (e ∙ too_short _ (past_records bytes i beyond.1))))
   | inr here ↦ here.1
 ]
 
@@ -76,7 +76,7 @@ module _ (processors : ℕ) (bytes : List ℕ) (sound : wrong_from processors 0 
   of : (p i : ℕ) → i < records_in bytes → is_of p bytes i ≡ eqb (who i) p
   of p i h = ap (λ x. eqb x p) (known_processor processors no_record bytes sound i h)
 
-  pub own : (p i : ℕ) → i < records_in bytes → is_of p bytes i ≡ true → who i ≡ p
+  own : (p i : ℕ) → i < records_in bytes → is_of p bytes i ≡ true → who i ≡ p
   own p i h is = let same : eqb (who i) p ≡ true = sym (of p i h) ∙ is in grind (arith, nat_tests)
 
   is_own : (i : ℕ) → i < records_in bytes → is_of (who i) bytes i ≡ true
@@ -192,7 +192,7 @@ module _ (processors : ℕ) (bytes : List ℕ) (sound : wrong_from processors 0 
               let below : j < length recs = grind (arith, nat_tests) in
               rw e (past j (omega (arith, below, many)))
 
-      pub settled_after : Settled bytes after
+      settled_after : Settled bytes after
       settled_after q h less = elim (eqb_tells q p) [
         | inl mine ↦
             let there : get_or after q 0 ≡ next_of p (i + 1) bytes = ap (λ x. get_or after x 0) mine.1 ∙ at_own in
@@ -218,8 +218,12 @@ module _ (processors : ℕ) (bytes : List ℕ) (sound : wrong_from processors 0 
   pub request_same : (i : ℕ) (r : Record) → i < records_in bytes → Some r ≡ decoded (take 16 (drop (i * 16) bytes)) → r.request ≡ request_at recs i
   request_same i r h e = ap (λ o. when_some o (λ x. x.request) r.request) (e ∙ (known processors no_record bytes sound i h).given)
 
+  pub record_there : (i : ℕ) (r : Record) → Some r ≡ decoded (take 16 (drop (i * 16) bytes))
+      → (i < records_in bytes) × (r.request ≡ request_at recs i)
+  record_there i r e = let inside = present bytes i r e in (inside, request_same i r inside e)
+
   pub request_there : (i : ℕ) → i < records_in bytes → None ≡ decoded (take 16 (drop (i * 16) bytes)) → ⊥
-  request_there i h e = not_some (sym (e ∙ (known processors no_record bytes sound i h).given))
+  request_there i h e = none-some _ (e ∙ (known processors no_record bytes sound i h).given)
 
 pub few_records : (t : Trace) → length (records_of t.records.now) ≤ 1048576
 few_records t = omega (arith, t.few, many t.processors t.records.now t.sound t.served.1)

@@ -35,6 +35,7 @@ impl<'a> Run<'a> {
 }
 
 // Runs a trace to its end. Refuses with 2, 12 or 13, only before the first step.
+#[tactic(auto, unfolding(crate::specs::Running::run_rule))]
 pub fn run_trace<M: Memory>(
     cluster: &mut Cluster,
     lines: &mut [Line],

@@ -117,6 +117,7 @@ impl<'a> Run<'a> {
         })
     }
 
+    #[tactic(auto, using(crate::proofs::Turns::many, crate::proofs::Turns::request_there), unfolding(crate::specs::Kept::is_left))]
     fn unfinished(&self, index: usize) -> bool
         ensures { result ≡ is_left self.now index }
     {

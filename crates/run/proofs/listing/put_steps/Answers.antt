@@ -25,44 +25,27 @@ loop-step-init g c =
 
 pub loop-step-preserved : goal.loop-step-preserved
 loop-step-preserved g c =
-    let recs = records_of c.args.trace.records.now in
-    let cluster = c.args.cluster.now in
-    let m = cluster.geometry.measures in
-    let here = c.loop-step in
-    let inv = here.invariant in
-    let same = ap (λ x. x.measures) inv.2 in
-    let alike = ap (λ t. records_of t.records.now) inv.1 in
-    let first = started recs cluster.processors c.args.lines.now c.args.locks.now (g.M.Memory.model c.args.memory.now) in
-    let s = state_of here.run here.cluster.processors here.lines here.locks (g.M.Memory.model here.memory) in
-    let last = c.step.new in
-    let s' = state_of last.self last.cluster.processors last.lines last.locks (g.M.Memory.model last.memory) in
+    let inv = c.loop-step.invariant in
     let told = c.in-Some.ensures in
     let step = c.in-Some.step in
-    let was = vec_items here.out in
-    let further = goes_on m recs here.cluster.geometry.measures (records_for here.run) same alike first s s' inv.0.0 inv.0.1 step told.value told.after told.less in
-    let rest = lines_of (steps_from m recs further.rest s') in
+    let was = vec_items c.loop-step.out in
+    let further = goes_on _ _ _ _ inv.2 inv.1 _ _ _ _ inv.0.1 step told.value told.after told.less in
+    let rest = lines_of (steps_from c.args.cluster.now.geometry.measures (records_of c.args.trace.records.now) further.rest _) in
     let lines = ap (λ l. l ++ rest) c.in_ok-put_step.ensures ∙ append_assoc was (line_of step) rest
     ∙ ap (λ steps. was ++ lines_of steps) (sym further.head) ∙ inv.0.2 in
     ((further.rest, further.going, lines), told.trace ∙ inv.1, told.geometry ∙ inv.2)
 
 pub returns : goal.returns
 returns g c =
+    let m = c.args.cluster.now.geometry.measures in
     let recs = records_of c.args.trace.records.now in
-    let cluster = c.args.cluster.now in
-    let m = cluster.geometry.measures in
-    let here = c.loop-step in
-    let inv = here.invariant in
-    let same = ap (λ x. x.measures) inv.2 in
-    let alike = ap (λ t. records_of t.records.now) inv.1 in
-    let first = started recs cluster.processors c.args.lines.now c.args.locks.now (g.M.Memory.model c.args.memory.now) in
-    let s = state_of here.run here.cluster.processors here.lines here.locks (g.M.Memory.model here.memory) in
-    let last = c.step.new in
-    let mem = g.M.Memory.model last.memory in
-    let s' = state_of last.self last.cluster.processors last.lines last.locks mem in
+    let inv = c.loop-step.invariant in
+    let was = vec_items c.loop-step.out in
     let told = c.in_default.ensures in
-    let stop = stops m recs here.cluster.geometry.measures (records_for here.run) same alike first s s' inv.0.0 inv.0.1 told.value told.after in
+    let last = c.step.new in
+    let stop = stops _ _ _ _ inv.2 inv.1 _ _ _ _ inv.0.1 told.value told.after in
     let kept = ap (λ t. records_of t.records.now) (told.trace ∙ inv.1) in
     record {
-      summary = c.summary.ensures.value ∙ summed m last.self recs last.cluster.processors last.lines last.locks mem kept ∙ ap (summary_of m recs) stop.end;
-      lines = sym (append-nil (vec_items here.out)) ∙ ap (λ steps. vec_items here.out ++ lines_of steps) (sym stop.no_more) ∙ inv.0.2;
+      summary = c.summary.ensures.value ∙ summed m last.self recs last.cluster.processors last.lines last.locks (g.M.Memory.model last.memory) kept ∙ ap (summary_of m recs) stop.end;
+      lines = sym (append-nil was) ∙ ap (λ steps. was ++ lines_of steps) (sym stop.no_more) ∙ inv.0.2;
     }

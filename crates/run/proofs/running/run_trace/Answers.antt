@@ -5,45 +5,8 @@ use Rattle.run.specs.Kept.{records_for, state_of}
 use Rattle.run.specs.Running.{due, started, ran, end_of, summary_of}
 use Rattle.run.proofs.Ends.{start_few}
 use Rattle.run.proofs.Turns.{few_records, summed}
-use Rattle.run.proofs.Runs.{tables_unfit, tables_fit_lem, not_read, read_and_run, ended}
+use Rattle.run.proofs.Runs.{read_and_run, ended}
 use Rattle.run.proofs.running.run_trace.Goals as goal
-
-pub returns-in_err-check_tables : goal.returns-in_err-check_tables
-returns-in_err-check_tables g c =
-    let cluster = c.args.cluster.now in
-    let rule = tables_unfit cluster.geometry.measures cluster.processors c.args.lines.now c.args.locks.now (g.M.Memory.model c.args.memory.now)
-    c.args.bytes.now c.in_err-check_tables.field-0.0 c.in_err-check_tables.ensures in
-    let gave = err_from_is_err_and c.from_residual.result c.from_residual.ensures.1 in
-    record {
-      answer = gave.1 ∙ ap Err gave.2 ∙ ap (λ x. x.answer) rule;
-      processors = ap (λ x. x.processors) rule;
-      lines = ap (λ x. x.lines) rule;
-      locks = ap (λ x. x.locks) rule;
-      memory = ap (λ x. x.memory) rule;
-      ended = rw gave.1 tt;
-      geometry = refl;
-      kept = refl;
-    }
-
-pub returns-in_err-read : goal.returns-in_err-read
-returns-in_err-read g c =
-    let cluster = c.args.cluster.now in
-    let m = cluster.geometry.measures in
-    let mem = g.M.Memory.model c.args.memory.now in
-    let fits = tables_fit_lem m cluster.processors c.args.lines.now c.args.locks.now mem c.args.bytes.now c.in_ok-check_tables.field-0 c.in_ok-check_tables.ensures in
-    let rule = not_read m cluster.processors c.args.lines.now c.args.locks.now mem
-    c.args.bytes.now c.in_err-read.field-0.0 fits c.in_err-read.ensures.value in
-    let gave = err_from_is_err_and c.from_residual-in_err-read.result c.from_residual-in_err-read.ensures.1 in
-    record {
-      answer = gave.1 ∙ ap Err gave.2 ∙ ap (λ x. x.answer) rule;
-      processors = ap (λ x. x.processors) rule;
-      lines = ap (λ x. x.lines) rule;
-      locks = ap (λ x. x.locks) rule;
-      memory = ap (λ x. x.memory) rule;
-      ended = rw gave.1 tt;
-      geometry = refl;
-      kept = refl;
-    }
 
 pub finish-requires : goal.finish-requires
 finish-requires g c =
@@ -68,9 +31,8 @@ returns g c =
     let t = c.in_ok-read.field-0 in
     let content = content_of t.processors t.records.now in
     let recs = content.records in
-    let fits = tables_fit_lem m ps lines locks mem bytes c.in_ok-check_tables.field-0 c.in_ok-check_tables.ensures in
     let value = c.in_ok-read.ensures.value in
-    let rule = read_and_run m ps lines locks mem bytes content fits value in
+    let rule = read_and_run m ps lines locks mem bytes c.in_ok-check_tables.field-0 content c.in_ok-check_tables.ensures value in
     let run = c.start-run.result in
     let told = c.start-run.ensures in
     let alike : records_for run ≡ recs = ap (λ x. records_of x.records.now) told.trace in
