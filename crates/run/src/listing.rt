@@ -45,7 +45,7 @@ fn put_steps<M: Memory>(
 }
 
 // The cluster that a trace is listed with has the trace's processors.
-#[tactic(auto, using(crate::proofs::Board::geometry_made, crate::proofs::Board::listing_lawful))]
+#[tactic(auto, using(crate::proofs::Measured::geometry_made, crate::proofs::Measured::listing_lawful))]
 pub fn listing_geometry(trace: &Trace) -> Geometry
     ensures { result.measures ≡ listing_measures trace.now.processors }
 {

@@ -1,7 +1,7 @@
 use Rattle.std.proofs.Common.{◌≡◌, ℕ, ◌++◌, vec_items, sym, refl, ap, subst, ◌∙◌, append_assoc, append-nil}
 use Rattle.trace.specs.Traces.{records_of}
 use Rattle.text.specs.Lines.{line_of}
-use Rattle.run.specs.Kept.{records_for, state_of, Going}
+use Rattle.run.specs.Kept.{Going}
 use Rattle.run.specs.Listing.{lines_of}
 use Rattle.run.specs.Running.{Running, started, to_go, steps_from, steps_of, summary_of}
 use Rattle.run.proofs.Ends.{going_start, goes_on, stops, start_few}

@@ -1,5 +1,4 @@
-use Rattle.std.proofs.Common.{◌≡◌, Ok, Err, sym, refl, ap, ◌∙◌}
-use Rattle.std.proofs.lemmas.Result.{err_from_is_err_and}
+use Rattle.std.proofs.Common.{◌≡◌, Ok, sym, ap, ◌∙◌}
 use Rattle.trace.specs.Traces.{records_of, content_of}
 use Rattle.run.specs.Kept.{records_for, state_of}
 use Rattle.run.specs.Running.{due, started, ran, end_of, summary_of}
