@@ -44,7 +44,8 @@ impl Cluster {
         self.check_locks(locks)
     }
 
-    // Issues a command for a processor.
+    // Issues a command for a processor. The tables and the memory are lent to each call, and each by itself: so this project
+    // asks, and so the contract can say of each what is in it afterwards.
     pub fn issue<M: Memory>(
         &mut self,
         lines: &mut [Line],

@@ -118,6 +118,7 @@ impl<'a> Run<'a> {
     }
 
     #[tactic(auto, using(crate::proofs::Turns::many, crate::proofs::Turns::request_there), unfolding(crate::specs::Kept::is_left))]
+    // Tried as `is_some_and` of the record: the check leaves open what the closure returns.
     fn unfinished(&self, index: usize) -> bool
         ensures { result ≡ is_left self.now index }
     {
