@@ -1,1 +1,2 @@
 pub mod Waits
+pub mod Swaps

@@ -27,8 +27,8 @@ impl Cluster {
 }
 
 impl<'a> View<'a> {
-    // The lowest processor but the asking one that has the block. A labelled break out of processors and ways is the form
-    // that this project asks for here.
+    // The lowest processor but the asking one that has the block. By a labelled break out of processors and ways: so this
+    // project asks (docs/DECISIONS.md).
     pub(crate) fn supplier(&self, asking: u8, block: u32) -> Option<u8>
         ensures { result ≡ supplier_of self.now.cluster.now.geometry.measures self.now.lines.now asking block }
     {

@@ -68,7 +68,7 @@ impl Cluster {
     pub(crate) fn mark_waited(&self, locks: &mut [LockEntry], asking: u8, address: u32)
         ensures { locks.new ≡ waited_for self.now.geometry.measures locks.old asking (address / 4) }
     {
-        // By index: after `iter_mut().enumerate()` the check knows the length of the entries and not what was written.
+        // Tried as `iter_mut().enumerate()`: the check knows the length of the entries then, and not what was written.
         for i in 0..locks.len() {
             locks[i] = self.waited(asking, address, i, locks[i]);
         }

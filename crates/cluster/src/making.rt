@@ -37,7 +37,7 @@ impl Cluster {
         self.processors[processor as usize].waits_for
     }
 
-    // Makes the cluster and its lent tables new, in the caller's place.
+    // Makes the cluster and its tables new, in the caller's place. The tables are lent one by one, as to every call.
     pub fn make_new(
         &mut self,
         geometry: Geometry,

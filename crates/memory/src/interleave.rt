@@ -36,9 +36,7 @@ impl<P: Memory, Q: Memory> Memory for Interleave<P, Q> {
     }
 
     fn read(&self, block: u32) -> Result<[u32; 4], Denied> {
-        if block >= self.blocks() {
-            return Err(Denied);
-        }
+        self.check(block)?;
         if block % 2 == 0 {
             self.first.read(block / 2)
         } else {
@@ -47,9 +45,7 @@ impl<P: Memory, Q: Memory> Memory for Interleave<P, Q> {
     }
 
     fn write(&mut self, block: u32, words: [u32; 4]) -> Result<(), Denied> {
-        if block >= self.blocks() {
-            return Err(Denied);
-        }
+        self.check(block)?;
         if block % 2 == 0 {
             self.first.write(block / 2, words)
         } else {

@@ -1,13 +1,11 @@
 // What every memory can do. Its meaning is the number of blocks, which blocks are live, and each block's four words.
-ghost use Rattle.std.specs.Prelude.{◌≡◌};
-ghost use Rattle.memory.specs.Meaning.{Mem, Lawful, Standing, reading, granted, written};
+ghost use Rattle.std.specs.Prelude.{◌≡◌, if◌then◌else◌, Ok, Err, nat_lt};
+ghost use Rattle.memory.specs.Meaning.{Mem, Lawful, Standing, denied, reading, granted, written};
 
 // The block is dead, or not below the number of blocks.
 #[derive(Clone, Copy)]
 pub struct Denied;
 
-// Each table of its own refuses a block beyond its number: one test of three lines, which as a function would need a
-// contract in each of them.
 pub trait Memory {
     ghost model: { Self → Mem };
 
@@ -18,6 +16,16 @@ pub trait Memory {
 
     fn blocks(&self) -> u32
         ensures { result ≡ (model self.now).count };
+
+    // Refuses a block that is not below the number.
+    fn check(&self, block: u32) -> Result<(), Denied>
+        ensures { result ≡ (if nat_lt block (model self.now).count then Ok tt else Err denied) }
+    {
+        if block >= self.blocks() {
+            return Err(Denied);
+        }
+        Ok(())
+    }
 
     fn read(&self, block: u32) -> Result<[u32; 4], Denied>
         ensures { result ≡ reading (model self.now) block };

@@ -53,17 +53,13 @@ impl<'a> Memory for WordTable<'a> {
     }
 
     fn read(&self, block: u32) -> Result<[u32; 4], Denied> {
-        if block >= self.blocks() {
-            return Err(Denied);
-        }
+        self.check(block)?;
         let (blocks, _) = self.words.as_chunks::<4>();
         Ok(blocks[block as usize])
     }
 
     fn write(&mut self, block: u32, words: [u32; 4]) -> Result<(), Denied> {
-        if block >= self.blocks() {
-            return Err(Denied);
-        }
+        self.check(block)?;
         let at = block as usize * 4;
         self.words[at..at + 4].copy_from_slice(&words);
         Ok(())

@@ -31,7 +31,8 @@ pub enum Refusal {
 }
 
 impl Refusal {
-    // No `From`: it is one of the two things that a refusal returns, and two refusals return the same number.
+    // A method and no `From`: two refusals have the number 1 and three carry values, so no `as u8` gives it, and the name
+    // says at a call what the `u8` is.
     pub fn number(self) -> u8
         ensures { result ≡ number_of self }
     {

@@ -12,7 +12,7 @@ pub struct Record {
     pub request: Request,
 }
 
-// A command that writes no word has data 0.
+// A command that writes no word has data 0. As with `code_of`, no TryFrom.
 fn command_of(code: u8, word: u32) -> Option<Command>
     ensures { result ≡ command_for code word }
 {
@@ -30,7 +30,8 @@ fn command_of(code: u8, word: u32) -> Option<Command>
     }
 }
 
-// No From or TryFrom: Command and u8 are both of other crates, and Rust allows none between them here.
+// No From or TryFrom: the codes are this format's, which the crate of Command does not know, and here Command and u8 are
+// both of other crates.
 fn code_of(command: Command) -> u8
     ensures { result ≡ code_of command }
 {
@@ -74,7 +75,7 @@ pub fn encode(put: Record) -> [u8; 16]
     ]
 }
 
-// The record that sixteen bytes are, if they are one.
+// The record that sixteen bytes are, if they are one. See `encode` for why it is a function.
 pub fn decode(bytes: &[u8]) -> Option<Record>
     ensures value { result ≡ decoded bytes.now }
     ensures back { IfSome result (λ got. encoded got ≡ bytes.now) }
