@@ -1,4 +1,4 @@
-// The lines of a census.
+// The lines of a census, put together field by field for the reason that stands at `text::lines::put_field`.
 use crate::report::Report;
 use protocol::refusal::Refusal;
 use std::alloc::AllocError;

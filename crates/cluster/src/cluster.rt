@@ -17,6 +17,7 @@ impl Processor {
     };
 }
 
+// That a call keeps the geometry is a clause of each, since an invariant sees one value and not two.
 #[derive(Clone, Copy)]
 pub struct Cluster {
     pub(crate) geometry: Geometry,

@@ -1,4 +1,5 @@
-// Who holds locks, and what happens to the lock entries.
+// Who holds locks, and what happens to the lock entries. `asking` and `address` go together here, and a type for the two
+// would say no more than their names.
 ghost use Rattle.std.specs.Prelude.{◌≡◌, ◌/◌, ◌<◌, length, IfSome, slice_index_or, slice_set};
 ghost use Rattle.cluster.specs.Locks.{locks_from, entry_of, held_entry, free_entry, other_lock, holder_of, waited_at, waited_for, somebody_waits};
 ghost use Rattle.cluster.specs.Making.{blank_entry};

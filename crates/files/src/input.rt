@@ -128,7 +128,7 @@ impl<'a> Iterator for Cases<'a> {
     }
 }
 
-// The record that is to be put.
+// The record that is to be put. A function, as `decode` is.
 pub fn record_of(bytes: &[u8]) -> Option<Record> {
     let (stamp, rest) = bytes.split_first_chunk::<4>()?;
     let (processor, rest) = rest.split_first()?;

@@ -1,4 +1,4 @@
-// A list of at most 16 dead blocks.
+// A list of at most 16 dead blocks: 16 places and no heap, as this project asks.
 ghost use Rattle.std.specs.Prelude.{◌≡◌, length, replicate, if◌then◌else◌, None, Ok, Err, nat_le};
 ghost use Rattle.memory.specs.Dead.{listed, filled};
 

@@ -1,4 +1,5 @@
-// The lines that show answers and tables, every field of them.
+// The lines that show answers and tables, every field of them, put together for the reason that stands at
+// `text::lines::put_field`.
 use protocol::answer::{Answer, Completion, LockHit, Supplier};
 use protocol::command::{BusCommand, Request};
 use protocol::line::Line;
@@ -9,6 +10,7 @@ use text::digits::{decimal, hexadecimal};
 use text::lines::{put_field, put_last};
 use text::names::{command_name, state_name};
 
+// Names of two places, as those of commands and states in the crate `text`, and for its reason.
 fn bus_name(bus: Option<BusCommand>) -> [u8; 2] {
     match bus {
         None => *b"--",

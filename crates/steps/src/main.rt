@@ -2,12 +2,10 @@
 // end. The input holds the cases one after another, as they stand in steps.txt.
 #![tactic(auto)]
 
-mod board;
 mod error;
 mod input;
 mod lines;
 
-use board::Board;
 use error::CaseError;
 use input::{Case, Cases, numbers};
 use lines::{put_step, put_table};
@@ -17,6 +15,8 @@ use memory::screen::Screen;
 use memory::word_table::WordTable;
 use parts::cases::put_heading;
 use parts::reading::read_all;
+use protocol::geometry::Geometry;
+use run::board::Board;
 use std::alloc::{AllocError, Global};
 use std::io;
 use std::io::Write;
@@ -32,7 +32,9 @@ fn put_steps<M: Memory>(
 ) -> Result<(), CaseError> {
     for bytes in records.chunks_exact(RECORD_SIZE) {
         let request = decode(bytes).ok_or(CaseError::Malformed)?.request;
-        let answer = board.issue(memory, request);
+        let answer = board
+            .cluster
+            .issue(&mut board.lines, &mut board.locks, memory, request);
         put_step(out, request, &answer)?;
     }
     Ok(())
@@ -48,7 +50,11 @@ fn put_case(heap: Global, out: &mut Vec<u8>, case: &Case) -> Result<(), CaseErro
         .ok_or(CaseError::Malformed)?;
     let mut memory = Screen::new(WordTable::new(table), dead);
     let measures = case.setting.measures;
-    let mut board = Board::new(heap, measures)?;
+    let geometry = Geometry::new(measures)?;
+    let mut board = Board::new(heap, geometry)?;
+    board
+        .cluster
+        .make_new(geometry, &mut board.lines, &mut board.locks)?;
     put_steps(out, &mut board, &mut memory, case.records)?;
     let lines_each = measures.columns.saturating_mul(measures.ways);
     put_table(out, b"states", &board.lines, lines_each)?;

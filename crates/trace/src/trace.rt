@@ -12,6 +12,7 @@ use crate::trailer::Trailer;
 pub use crate::trailer::{MOST_RECORDS, TRAILER_SIZE, VERSION};
 use protocol::refusal::Refusal;
 
+// The bytes as they were lent, since the contracts speak of them; `whole` says that they are records.
 #[derive(Clone, Copy)]
 pub struct Trace<'a> {
     records: &'a [u8],

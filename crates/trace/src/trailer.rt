@@ -37,7 +37,7 @@ impl Trailer {
             && may_serve(self.processors)
     }
 
-    // Size, version, processors, two zero bytes.
+    // Size, version, processors, two zero bytes. Functions and no conversions, as `encode` and `decode` of a record.
     pub(crate) fn decode(bytes: &[u8]) -> Option<Trailer>
         ensures value { result ≡ trailer_of bytes.now }
         ensures back { IfSome result (λ t. trailer_bytes t.size t.processors ≡ drop (length bytes.now - 8) bytes.now) }
