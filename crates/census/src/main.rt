@@ -11,14 +11,11 @@ use parts::reading::read_all;
 use protocol::geometry::Geometry;
 use report::{geometry_of, take_census};
 use run::board::Board;
-use run::listing::{MEMORY_WORDS, MOST_INPUT};
+use run::listing::{MEMORY_WORDS, MOST_READ};
 use std::alloc::{AllocError, Global};
 use std::io;
 use std::io::{Read, Write};
 use text::lines::put_refusal;
-
-// One byte more than the program takes, so that a longer trace is seen to be one.
-const MOST_READ: u64 = MOST_INPUT as u64 + 1;
 
 // The census of a run over a new cluster and zero words.
 fn put_census(
@@ -49,4 +46,24 @@ fn main(rt: HostRuntime) -> io::Result<()> {
     let heap = rt.alloc();
     let input = read_all(heap, rt.stdin().take(MOST_READ))?;
     rt.stdout().write_all(&count(heap, &input)?)
+}
+
+#[cfg(test)]
+mod tests {
+    use super::*;
+    use std::test::Fail;
+
+    #[test]
+    fn a_new_board(rt: HostRuntime) -> Result<(), Fail> {
+        let board = Board::new(rt.alloc(), Geometry::standard())?;
+        assert_eq!(rt; board.lines.len(), 8192);
+        assert_eq!(rt; board.locks.len(), 16);
+        assert!(rt;
+            board
+                .cluster
+                .check_tables(&board.lines, &board.locks)
+                .is_ok()
+        );
+        Ok(())
+    }
 }

@@ -3,9 +3,8 @@ use memory::memory::Memory;
 use protocol::geometry::Geometry;
 use protocol::refusal::Refusal;
 use run::board::Board;
-use run::listing::{MOST_INPUT, listing_geometry};
+use run::listing::{listing_geometry, read_listed};
 use run::running::run_trace;
-use trace::trace::Trace;
 use upkeep::census::census;
 use upkeep::drain::{Drained, drain};
 
@@ -18,10 +17,7 @@ pub struct Report {
 
 // The geometry of the cluster that the trace is listed with.
 pub fn geometry_of(input: &[u8]) -> Result<Geometry, Refusal> {
-    if input.len() > MOST_INPUT {
-        return Err(Refusal::Trailer);
-    }
-    Ok(listing_geometry(&Trace::read(input)?))
+    Ok(listing_geometry(&read_listed(input)?))
 }
 
 // Runs the trace on a new board, counts its lines and drains them.

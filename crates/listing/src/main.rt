@@ -2,12 +2,9 @@
 #![tactic(auto)]
 
 use parts::reading::read_all;
-use run::listing::{MOST_INPUT, list};
+use run::listing::{MOST_READ, list};
 use std::io;
 use std::io::{Read, Write};
-
-// One byte more than a listing takes, so that a longer trace is seen to be one.
-const MOST_READ: u64 = MOST_INPUT as u64 + 1;
 
 fn main(rt: HostRuntime) -> io::Result<()> {
     let heap = rt.alloc();

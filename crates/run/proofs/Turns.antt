@@ -49,7 +49,7 @@ by_lowest bytes p from (Some x) low h = record {
   ];
 }
 
-next_at : (bytes : List ℕ) (p from : ℕ) → from ≤ records_in bytes → NextAt bytes p from (next_of p from bytes)
+pub next_at : (bytes : List ℕ) (p from : ℕ) → from ≤ records_in bytes → NextAt bytes p from (next_of p from bytes)
 next_at bytes p from low =
     by_lowest bytes p from (lowest_from (is_of p bytes) from (records_in bytes - from)) low (lowest_tells (is_of p bytes) (records_in bytes - from) from)
 

@@ -1,6 +1,7 @@
 pub mod Answered
 pub mod Board
 pub mod Settled
+pub mod Progress
 pub mod Kept
 pub mod Running
 pub mod Listing

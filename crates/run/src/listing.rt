@@ -1,6 +1,7 @@
 // The listing of a trace: a line for each step, the total, and what is left.
-ghost use Rattle.std.specs.Prelude.{◌≡◌, ◌++◌, IfOk, OnOk};
-ghost use Rattle.trace.specs.Traces.{records_of, content_of};
+ghost use Rattle.std.specs.Prelude.{◌≡◌, ◌++◌, if◌then◌else◌, length, nat_lt, Err, IfOk, OnOk};
+ghost use Rattle.std.specs.Result.{result_map_both};
+ghost use Rattle.trace.specs.Traces.{records_of, content_of, trace_of};
 ghost use Rattle.run.specs.Board.{listing_measures};
 ghost use Rattle.run.specs.Listing.{lines_of, run_lines, listing_of};
 ghost use Rattle.run.specs.Running.{steps_of, summary_of, started, end_of};
@@ -21,6 +22,9 @@ use text::step::Summary;
 use trace::trace::Trace;
 
 pub const MOST_INPUT: usize = 65_536;
+
+// One byte more than a listing takes, so that a longer trace is seen to be one.
+pub const MOST_READ: u64 = MOST_INPUT as u64 + 1;
 
 pub const MEMORY_WORDS: usize = 1_024;
 
@@ -78,16 +82,22 @@ fn put_run(heap: Global, out: &mut Vec<u8>, trace: Trace) -> Result<(), AllocErr
     Ok(())
 }
 
+// The trace that is listed. An input of over 65,536 bytes counts as one with a wrong trailer.
+pub fn read_listed(input: &[u8]) -> Result<Trace<'_>, Refusal>
+    ensures { result_map_both (λ t. content_of t.processors t.records.now) (λ refusal. refusal) result ≡ (if nat_lt 65536 (length input.now) then Err Refusal.Trailer else trace_of input.now) }
+{
+    if input.len() > MOST_INPUT {
+        return Err(Refusal::Trailer);
+    }
+    Trace::read(input)
+}
+
 // The listing of a trace. Only want of memory is an error.
 pub fn list(heap: Global, input: &[u8]) -> Result<Vec<u8>, AllocError>
     ensures { IfOk result (λ out. out.items ≡ listing_of input.now) }
 {
     let mut out = Vec::new(heap);
-    if input.len() > MOST_INPUT {
-        put_refusal(&mut out, Refusal::Trailer)?;
-        return Ok(out);
-    }
-    match Trace::read(input) {
+    match read_listed(input) {
         Ok(trace) => put_run(heap, &mut out, trace)?,
         Err(refusal) => put_refusal(&mut out, refusal)?,
     }

@@ -5,6 +5,7 @@ ghost use Rattle.trace.specs.Sizes.{records_in};
 ghost use Rattle.trace.specs.Traces.{next_of};
 ghost use Rattle.run.specs.Answered.{cost_of, finishes_record};
 ghost use Rattle.run.specs.Kept.{AtFirst, records_for, is_left, left_by, summary_by, state_of, next_step, after_step, Earliest, next_after};
+ghost use Rattle.run.specs.Progress.{Stepped};
 ghost use Rattle.run.specs.Running.{to_go};
 
 use crate::run::Run;
@@ -99,6 +100,7 @@ impl<'a> Run<'a> {
         memory: &mut M,
     ) -> Option<Step>
         requires { self.old.steps < 1000000000 }
+        ensures stepped { Stepped (records_in self.old.trace.records.now) result self.old self.new cluster.old.processors cluster.new.processors }
         ensures value { result ≡ next_step cluster.old.geometry.measures self.old (state_of self.old cluster.old.processors lines.old locks.old (M.Memory.model memory.old)) }
         ensures after { state_of self.new cluster.new.processors lines.new locks.new (M.Memory.model memory.new) ≡ after_step cluster.old.geometry.measures self.old (state_of self.old cluster.old.processors lines.old locks.old (M.Memory.model memory.old)) }
         ensures less { OnSome result (to_go cluster.old.geometry.measures (records_for self.old) (state_of self.new cluster.new.processors lines.new locks.new (M.Memory.model memory.new)) < to_go cluster.old.geometry.measures (records_for self.old) (state_of self.old cluster.old.processors lines.old locks.old (M.Memory.model memory.old))) }

@@ -6,6 +6,7 @@ use Rattle.run.specs.Kept.{records_for, state_of, unfinished_by}
 use Rattle.run.specs.Running.{request_at, due}
 use Rattle.run.proofs.Turns.{due_none, due_some, request_same, request_there, unfinished_after}
 use Rattle.run.proofs.Falls.{no_such_processor, step_falls, step_after, shown_due}
+use Rattle.run.proofs.ToCome.{cost_low, step_leaves_less}
 use Rattle.run.proofs.run.Run.step.Goals as goal
 
 pub returns-in_err-processor : goal.returns-in_err-processor
@@ -18,7 +19,7 @@ returns-in_err-processor g c =
     let none : due m (records_for run) s ≡ None
     = due_none t.processors t.records.now t.sound t.served.1 run.next run.eight run.settled m s refl c.in_err-processor.ensures in
     let gave = c.from_residual.ensures in
-    record { value = rw none gave; after = rw none refl; less = rw gave tt; trace = refl; geometry = refl; kept = refl }
+    record { stepped = rw gave refl; value = rw none gave; after = rw none refl; less = rw gave tt; trace = refl; geometry = refl; kept = refl }
 
 pub returns-in_err-next : goal.returns-in_err-next
 returns-in_err-next g c =
@@ -56,6 +57,8 @@ returns g c =
     = (λ k. unfinished_by (records_of (told.trace k).records.now) (told.next k))
     ∙ unfinished_after t.processors bytes t.sound t.served.1 run.next run.eight run.settled p earliest.0 earliest.2 (finishes_record r) in
     record {
+      stepped = step_leaves_less bytes run after p ps done.self.processors r done.self.eight earliest.0 earliest.2
+          told.next told.steps told.cycles (cost_low r issued.cost) issued.waiting;
       value = shown_due m recs s (record { number = after.steps; request = next.request; answer = r }) i is-due
           (λ k. record { number = told.steps k; request = same k; answer = answer k });
       after = step_after m recs s s' i is-due processors
