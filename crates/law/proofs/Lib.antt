@@ -1,3 +1,4 @@
+pub mod Invariant
 pub mod Shapes
 pub mod Unchanged
 pub mod Awaits

@@ -62,27 +62,27 @@ module _ (m : Measures) (ps : List Processor) (lines : List Line) (locks : List 
   processors_long o (waited w) = ap (λ x. length x.processors) w.is ∙ length-set ps w.case.processor _
   processors_long o (finished f) = ap (λ x. length x.processors) f.is ∙ length_processors m ps locks f.case (way_taken m ps lines f.case)
 
-abbrev held_by : Measures → List LockEntry → ℕ → ℕ → ℕ
+abbrev pub held_by : Measures → List LockEntry → ℕ → ℕ → ℕ
 held_by m locks p a = count_by (locks_from a a) (window_of (locks_start m p) m.lock_entries locks)
 
 -- what is kept from call to call
-record Kept (m : Measures) (b : Board) (l : Ledger) : Type 0 where
-  eight : length b.processors ≡ 8
-  fit : length b.locks ≡ lock_count m
-  waits : (r : ℕ) → awaited_in m b.processors r ≡ l.waits r
-  held : (p : ℕ) → p < m.processors → (a : ℕ) → held_by m b.locks p a ≡ cond (l.holds p a) 1 0
+pub record Kept (m : Measures) (b : Board) (l : Ledger) : Type 0 where
+  pub eight : length b.processors ≡ 8
+  pub fit : length b.locks ≡ lock_count m
+  pub waits : (r : ℕ) → awaited_in m b.processors r ≡ l.waits r
+  pub held : (p : ℕ) → p < m.processors → (a : ℕ) → held_by m b.locks p a ≡ cond (l.holds p a) 1 0
 
 some_one : (b : Bool) → ltb 0 (cond b 1 0) ≡ b
 some_one true = refl
 some_one false = refl
 
-accounts : (m : Measures) (b : Board) (l : Ledger) → Kept m b l → Accounts m b l
+pub accounts : (m : Measures) (b : Board) (l : Ledger) → Kept m b l → Accounts m b l
 accounts m b l k = record {
   locks = λ p a h. first_counted (locks_from a a) (locks_start m p) (window_of (locks_start m p) m.lock_entries b.locks) ∙ ap (ltb 0) (k.held p h a) ∙ some_one (l.holds p a);
   waits = k.waits;
 }
 
-kept_on : (m : Measures) (b : Board) (l : Ledger) → m.processors ≤ 8 → Kept m b l → (call : Call) → Kept m (left_by m b call) (fed call (said_by m b call) l)
+pub kept_on : (m : Measures) (b : Board) (l : Ledger) → m.processors ≤ 8 → Kept m b l → (call : Call) → Kept m (left_by m b call) (fed call (said_by m b call) l)
 kept_on m b l few k (command q) =
     let way = shape m b.processors b.lines b.locks b.memory q in
     let o = command_on m b q in
@@ -113,7 +113,7 @@ nobody : (b : Bool) (w : Option ℕ) → w ≡ None → cond b w None ≡ None
 nobody true w e = e
 nobody false w e = refl
 
-new_kept : (m : Measures) (mem : Mem) → Kept m (new_board m mem) (opened mem)
+pub new_kept : (m : Measures) (mem : Mem) → Kept m (new_board m mem) (opened mem)
 new_kept m mem = record {
   eight = length-replicate 8 resting;
   fit = length-replicate (lock_count m) blank_entry;

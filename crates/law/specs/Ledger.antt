@@ -54,7 +54,7 @@ holding processor address held l =
       waits = l.waits;
     }
 
-abbrev waits_in : ℕ → Option ℕ → Bool
+abbrev pub waits_in : ℕ → Option ℕ → Bool
 waits_in block None = false
 waits_in block (Some b) = b == block
 

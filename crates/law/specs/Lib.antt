@@ -2,3 +2,4 @@ pub mod Calls
 pub mod Refusals
 pub mod Ledger
 pub mod Accounts
+pub mod Law
