@@ -1,4 +1,6 @@
 pub mod Invariant
+pub mod Moving
+pub mod Owning
 pub mod Shapes
 pub mod Unchanged
 pub mod Awaits
