@@ -1,4 +1,5 @@
 pub mod Invariant
+pub mod Words
 pub mod Moving
 pub mod Owning
 pub mod Shapes
