@@ -1,6 +1,7 @@
 pub mod Invariant
 pub mod Words
 pub mod Moving
+pub mod Cells
 pub mod Owning
 pub mod Shapes
 pub mod Unchanged
