@@ -1,4 +1,5 @@
 pub mod Invariant
+pub mod Replacing
 pub mod Shapes
 pub mod Unchanged
 pub mod Awaits
