@@ -1,5 +1,6 @@
 pub mod Invariant
 pub mod Replacing
+pub mod Drained
 pub mod Shapes
 pub mod Unchanged
 pub mod Awaits
