@@ -3,6 +3,8 @@ pub mod Words
 pub mod Moving
 pub mod Cells
 pub mod Owning
+pub mod Replacing
+pub mod Drained
 pub mod Shapes
 pub mod Unchanged
 pub mod Awaits
