@@ -6,3 +6,4 @@ pub mod Windows
 pub mod Holds
 pub mod Told
 pub mod Places
+pub mod Snooped
