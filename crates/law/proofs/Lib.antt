@@ -7,3 +7,4 @@ pub mod Holds
 pub mod Told
 pub mod Places
 pub mod Snooped
+pub mod Taking

@@ -1,15 +1,15 @@
 -- Places of a table of lines: whose they are, where a search lands, what it tells if it finds nothing.
-use Rattle.std.proofs.Common.{◌≡◌, ℕ, suc, ◌+◌, ◌-◌, ◌*◌, ◌%◌, ◌<◌, ◌≤◌, Bool, true, false, cond, not, ◌&&◌, ◌⊎◌, eqb, ltb, leb, List, length, get_or, take, drop, is_some, Some, None, Option, sym, refl, ap, subst, ◌∙◌, inl, inr, mul-le-mul_right, suc-mul, arith}
+use Rattle.std.proofs.Common.{◌≡◌, ℕ, suc, ◌+◌, ◌-◌, ◌*◌, ◌%◌, ◌<◌, ◌≤◌, Bool, true, false, cond, not, ◌&&◌, ◌⊎◌, eqb, ltb, leb, List, length, get_or, drop, is_some, Some, None, Option, sym, refl, ap, subst, ◌∙◌, inl, inr, mul-le-mul_right, suc-mul, arith}
 use Rattle.std.proofs.Math.Nat.{mul_assoc, div-eq_of_lt-le, mod-lt}
 use Rattle.std.specs.List.{position_or_len}
 use Rattle.std.proofs.lemmas.Bool.{false≢true, eq-eqb}
-use Rattle.std.proofs.lemmas.Bool.Decides.{eqb_tells, leb_tells, nat_tests}
+use Rattle.std.proofs.lemmas.Bool.Decides.{eqb_tells, nat_tests}
 use Rattle.std.proofs.lemmas.List.{get_or-take, get_or-drop}
 use Rattle.std.proofs.lemmas.List.Sums.{fails_before_first}
 use Rattle.protocol.specs.declared.line.Line.{Line}
 use Rattle.protocol.specs.declared.measures.Measures.{Measures}
 use Rattle.protocol.specs.Entries.{valid}
-use Rattle.protocol.specs.Finding.{first_in, window_of, lowest_from}
+use Rattle.protocol.specs.Finding.{first_in, window_of}
 use Rattle.protocol.specs.Lines.{no_line}
 use Rattle.protocol.specs.Places.{line_count, window_start}
 use Rattle.protocol.proofs.Finding.{first_from, Lowest, lowest_tells}
@@ -78,6 +78,15 @@ module _ (m : Measures) (some_columns : 0 < m.columns) where
       let same = ap (λ k. k * (m.columns * m.ways)) one in
       div-eq_of_lt-le (m.columns * m.ways) (omega (arith, from, low)) (omega (arith, to, high, same))
 
+  pub home_in : (p block i : ℕ) → p < m.processors → window_start m p block ≤ i → i < window_start m p block + m.ways → Home m block i
+  home_in p block i listed low high =
+      let owned = sym (owner_in p block i low high) in
+      record {
+        listed = subst (λ o. o < m.processors) owned listed;
+        from = subst (λ o. window_start m o block ≤ i) owned low;
+        to = subst (λ o. i < window_start m o block + m.ways) owned high;
+      }
+
   module _ (lines : List Line) (fit : length lines ≡ line_count m) where
     pub window_inside_table : (p block i : ℕ) → p < m.processors → i < window_start m p block + m.ways → i < length lines
     window_inside_table p block i listed high =
@@ -86,18 +95,18 @@ module _ (m : Measures) (some_columns : 0 < m.columns) where
         let same = mul_assoc m.processors m.columns m.ways in
         omega (arith, to, up, same, fit, high)
 
+    pub room_of : (p block : ℕ) → p < m.processors → length (window_of (window_start m p block) m.ways lines) ≡ m.ways
+    room_of p block listed =
+        let to = window_to p block in
+        let up : suc p * (m.columns * m.ways) ≤ m.processors * (m.columns * m.ways) = mul-le-mul_right (m.columns * m.ways) listed in
+        let same = mul_assoc m.processors m.columns m.ways in
+        length-window lines (window_start m p block) m.ways (omega (arith, to, up, same, fit))
+
     module _ (homed : Homed m (at_in lines)) where
       -- a copy stands in its block's window in its owner's cache
       pub copy_home : (block i : ℕ) → copy (at_in lines) block i → Home m block i
       copy_home block i h =
           let tells = copy_tells block (at_in lines i) h in subst (λ b. Home m b i) tells.1 (homed.home i tells.0)
-
-      room_of : (p block : ℕ) → p < m.processors → length (window_of (window_start m p block) m.ways lines) ≡ m.ways
-      room_of p block listed =
-          let to = window_to p block in
-          let up : suc p * (m.columns * m.ways) ≤ m.processors * (m.columns * m.ways) = mul-le-mul_right (m.columns * m.ways) listed in
-          let same = mul_assoc m.processors m.columns m.ways in
-          length-window lines (window_start m p block) m.ways (omega (arith, to, up, same, fit))
 
       pub found_at : (p block i : ℕ) → p < m.processors → line_of m lines p block ≡ Some i → FoundAt m lines p block i
       found_at p block i listed e =
