@@ -43,9 +43,9 @@ snooped_valid bus SM h = refl
 snooped_valid bus EC h = refl
 snooped_valid bus EM h = refl
 
--- a line that a changed line is left from has the same block
-abbrev pub Kept : Line → Line → Type 0
-Kept line left = valid left.state ≡ true → (valid line.state ≡ true) × (left.block ≡ line.block)
+-- a line left in use was in use before, for the same block
+abbrev pub BlockKept : Line → Line → Type 0
+BlockKept line left = valid left.state ≡ true → (valid line.state ≡ true) × (left.block ≡ line.block)
 
 in_state_valid : (line : Line) (s : State) → valid (in_state line s).state ≡ true → (valid s ≡ true) × ((in_state line s).block ≡ line.block)
 in_state_valid line s h = by_valid (valid s) h
@@ -55,11 +55,11 @@ in_state_valid line s h = by_valid (valid s) h
     by_valid true h = (h, refl)
     by_valid false h = absurd (cc)
 
-pub struck_kept : (bus : BusCommand) (line : Line) → Kept line (struck bus line)
+pub struck_kept : (bus : BusCommand) (line : Line) → BlockKept line (struck bus line)
 struck_kept bus line h = let left = in_state_valid line (snooped bus line.state) h in (snooped_valid bus line.state left.0, left.1)
 
 -- lines that are kept or become I stay in their windows
-module _ (m : Measures) (at left : ℕ → Line) (kept : (i : ℕ) → Kept (at i) (left i)) where
+module _ (m : Measures) (at left : ℕ → Line) (kept : (i : ℕ) → BlockKept (at i) (left i)) where
   pub copy_was : (block i : ℕ) → copy left block i → copy at block i
   copy_was block i h =
       let tells = copy_tells block (left i) h in
@@ -78,10 +78,10 @@ module _ (m : Measures) (some_columns : 0 < m.columns) (bus : BusCommand) (askin
   abbrev pub left_at : ℕ → Line → Line
   left_at i line = cond (holds_block block line && not (eqb (owner m i) asking)) (struck bus line) line
 
-  pub left_kept : (i : ℕ) (line : Line) → Kept line (left_at i line)
+  pub left_kept : (i : ℕ) (line : Line) → BlockKept line (left_at i line)
   left_kept i line = by_test (holds_block block line && not (eqb (owner m i) asking))
     where
-      by_test : (b : Bool) → Kept line (cond b (struck bus line) line)
+      by_test : (b : Bool) → BlockKept line (cond b (struck bus line) line)
       by_test true = struck_kept bus line
       by_test false = λ h. (h, refl)
 
@@ -170,10 +170,10 @@ module _ (m : Measures) (some_columns : 0 < m.columns) (bus : BusCommand) (askin
             ∙ ap (λ b. cond (holds_block block (at_in lines i) && b) (struck bus (at_in lines i)) (at_in lines i))
             (eq-eqb (owner m i) p owned ∙ sym (ap (λ o. not (eqb o asking)) owned ∙ ap not e))
 
-    after_at : (i : ℕ) → Kept (at_in lines i) (at_in (after p lines) i)
+    after_at : (i : ℕ) → BlockKept (at_in lines i) (at_in (after p lines) i)
     after_at i = elim (eqb_tells (owner m i) p) [
-      | inl same ↦ subst (Kept (at_in lines i)) (sym (after_here i same.1)) (left_kept i (at_in lines i))
-      | inr other ↦ subst (Kept (at_in lines i)) (sym (after_away i other.1)) (λ h. (h, refl))
+      | inl same ↦ subst (BlockKept (at_in lines i)) (sym (after_here i same.1)) (left_kept i (at_in lines i))
+      | inr other ↦ subst (BlockKept (at_in lines i)) (sym (after_away i other.1)) (λ h. (h, refl))
     ]
 
     homed_after : Homed m (at_in (after p lines))
@@ -235,8 +235,8 @@ module _ (m : Measures) (some_columns : 0 < m.columns) (bus : BusCommand) (askin
             let listed = home.listed in
             absurd (omega (arith, out, listed))
 
-    pub others_kept : (i : ℕ) → Kept (at_in lines i) (at_in (others_snooped m bus asking block lines) i)
-    others_kept i = subst (Kept (at_in lines i)) (sym (snooped_at_places i)) (left_kept i (at_in lines i))
+    pub others_kept : (i : ℕ) → BlockKept (at_in lines i) (at_in (others_snooped m bus asking block lines) i)
+    others_kept i = subst (BlockKept (at_in lines i)) (sym (snooped_at_places i)) (left_kept i (at_in lines i))
 
     pub homed_snooped : Homed m (at_in (others_snooped m bus asking block lines))
     homed_snooped = homed_kept m (at_in lines) (at_in (others_snooped m bus asking block lines)) others_kept homed
