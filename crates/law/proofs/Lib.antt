@@ -11,3 +11,6 @@ pub mod Awaits
 pub mod Windows
 pub mod Holds
 pub mod Told
+pub mod Places
+pub mod Snooped
+pub mod Taking
