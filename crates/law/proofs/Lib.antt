@@ -3,6 +3,7 @@ pub mod Words
 pub mod Moving
 pub mod Cells
 pub mod Owning
+pub mod Leaving
 pub mod Replacing
 pub mod Drained
 pub mod Shapes
