@@ -15,3 +15,4 @@ pub mod Told
 pub mod Places
 pub mod Snooped
 pub mod Taking
+pub mod Placing
