@@ -17,7 +17,7 @@ use Rattle.protocol.specs.StateTable.{cell_of, column_for}
 use Rattle.cluster.specs.Doing.{asks_for_block, is_unlock}
 use Rattle.cluster.specs.Refusing.{is_direct_write}
 use Rattle.cluster.specs.Settling.{takes_lock}
-use Rattle.law.specs.Law.{exclusive}
+use Rattle.law.specs.Law.{exclusive, reads}
 use Rattle.law.proofs.Moving.{clears}
 use Rattle.law.proofs.Words.{purging, fresh}
 
@@ -128,6 +128,17 @@ takes_lock_as RP = false
 takes_lock_as LR = true
 takes_lock_as UW = false
 takes_lock_as U = false
+
+-- a DW writes
+pub unwritten : (a : Action) → writes a ≡ false → is_direct_write a ≡ false
+unwritten R w = refl
+unwritten W w = refl
+unwritten DW w = absurd (cc)
+unwritten RI w = refl
+unwritten RP w = refl
+unwritten LR w = refl
+unwritten UW w = refl
+unwritten U w = refl
 
 -- no other copy is left: the copy found was exclusive, or the bus command clears the others
 abbrev pub sole : State → Effect → Bool
@@ -376,3 +387,19 @@ module _ (address : ℕ) (found : State) (elsewhere : Bool) where
   acts_locks command.RB h = absurd (cc)
   acts_locks (command.UW word) h = absurd (cc)
   acts_locks command.U h = absurd (cc)
+
+  pub acts_reads : (c : Command) → reads c ≡ true → (is_unlock (acting c) ≡ false) × (fresh c address ≡ false)
+  acts_reads command.R h = (refl, refl)
+  acts_reads (command.W word) h = absurd (cc)
+  acts_reads (command.DW word) h = absurd (cc)
+  acts_reads command.RI h = (refl, refl)
+  acts_reads command.RP h = (refl, refl)
+  acts_reads command.RB h = (by_last (eqb (address % 4) 3) (not (valid found) && elsewhere), refl)
+    where
+      by_last : (b d : Bool) → is_unlock (cond b RP (cond d RI R)) ≡ false
+      by_last true d = refl
+      by_last false true = refl
+      by_last false false = refl
+  acts_reads command.LR h = (refl, refl)
+  acts_reads (command.UW word) h = absurd (cc)
+  acts_reads command.U h = absurd (cc)

@@ -16,3 +16,6 @@ pub mod Places
 pub mod Snooped
 pub mod Taking
 pub mod Placing
+pub mod Doing
+pub mod Hits
+pub mod Misses

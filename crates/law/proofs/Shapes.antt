@@ -31,19 +31,19 @@ passed true e rest x h = absurd (cc)
 passed false e rest x h = (refl, h)
 
 module _ (m : Measures) (ps : List Processor) (lines : List Line) (locks : List LockEntry) (mem : Mem) (q : Request) where
-  abbrev place : Option ℕ
+  abbrev pub place : Option ℕ
   place = line_of m lines q.processor (q.address / 4)
 
-  abbrev found : State
+  abbrev pub found : State
   found = (line_at lines place).state
 
-  abbrev copy : Option ℕ
+  abbrev pub copy : Option ℕ
   copy = supplier_of m lines q.processor (q.address / 4)
 
-  abbrev holder : Option ℕ
+  abbrev pub holder : Option ℕ
   holder = holder_of m locks q.processor (q.address / 4)
 
-  abbrev action_of : Action
+  abbrev pub action_of : Action
   action_of = acts_as q.command q.address found (is_some copy)
 
   abbrev pub met : Effect → Case
