@@ -5,3 +5,4 @@ pub mod Awaits
 pub mod Windows
 pub mod Holds
 pub mod Told
+pub mod LockLaw
