@@ -6,3 +6,4 @@ pub mod Windows
 pub mod Holds
 pub mod Told
 pub mod LockLaw
+pub mod LocksKept
