@@ -7,3 +7,4 @@ pub mod Holds
 pub mod Told
 pub mod LockLaw
 pub mod LocksKept
+pub mod Marked

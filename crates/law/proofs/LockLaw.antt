@@ -124,7 +124,7 @@ block_in l block p a e h =
     by_place (inr x) (inr y) (inr z) = inr (inr (inr (is_at (4 * block + 3) (omega (arith, e, x.1, y.1, z.1)))))
 
 -- what the tests for an address and for a block tell of an entry
-locks_at : (a : ℕ) (e : LockEntry) → locks_from a a e ≡ true → (in_use e ≡ true) × (e.address ≡ a)
+pub locks_at : (a : ℕ) (e : LockEntry) → locks_from a a e ≡ true → (in_use e ≡ true) × (e.address ≡ a)
 locks_at a e h = by_use (in_use e) refl h
   where
     by_use : (b : Bool) → in_use e ≡ b → (b && leb a e.address && leb e.address a) ≡ true → (in_use e ≡ true) × (e.address ≡ a)

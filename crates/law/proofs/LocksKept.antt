@@ -84,7 +84,7 @@ no_hit true lk holder e g = ap is_some e
 no_hit false true holder e g = ap is_some e
 no_hit false false holder e g = absurd (cc)
 
-hit_by : (asks lk : Bool) (holder : Option ℕ) (p : ℕ) → cond asks holder (cond lk holder None) ≡ Some p → is_some holder ≡ true
+pub hit_by : (asks lk : Bool) (holder : Option ℕ) (p : ℕ) → cond asks holder (cond lk holder None) ≡ Some p → is_some holder ≡ true
 hit_by true lk holder p e = ap is_some e
 hit_by false true holder p e = ap is_some e
 hit_by false false holder p e = absurd (cc)
