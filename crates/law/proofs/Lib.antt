@@ -8,3 +8,4 @@ pub mod Told
 pub mod LockLaw
 pub mod LocksKept
 pub mod Marked
+pub mod LocksOn

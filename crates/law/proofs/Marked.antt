@@ -32,7 +32,7 @@ use Rattle.law.proofs.Awaits.{wake, done_waits, ul_quiet}
 use Rattle.law.proofs.Invariant.{OneHolder, Marked, AllMarked}
 use Rattle.law.proofs.LockLaw.{the_some, Stands, stands, locks_at, blocked_at, block_in, entry_holds}
 use Rattle.law.proofs.LocksKept.{HoldersListed, some_passes, hit_by}
-use Rattle.law.proofs.Shapes.{Shape, refused, waited, finished, Waited, Finished, Admitted}
+use Rattle.law.proofs.Shapes.{Shape, refused, waited, finished, shape}
 use Rattle.law.proofs.Told.{Kept, kept_on, length-map}
 use Rattle.law.proofs.Windows.{apart}
 
@@ -184,3 +184,67 @@ module _ (m : Measures) (locks : List LockEntry) (q : Request) where
         | inl empty ↦ false≢true (sym empty ∙ waited_used (get_or locks i blank_entry) waits)
         | inr emptied ↦ quiet (rw (emptied.0, waits) refl) (sym here ∙ ap block_of emptied.1)
       ]
+
+module _ (m : Measures) (b : Board) (l : Ledger) (marked : AllMarked b.locks l) (q : Request) where
+  abbrev block : ℕ
+  block = block_of q.address
+
+  abbrev used : Option ℕ
+  used = entry_used m b.locks q
+
+  marked_waiting : is_some (holder_of m b.locks q.processor block) ≡ true
+      → (r to : ℕ) → cond (eqb r q.processor) (Some block) (l.waits r) ≡ Some to → Marked (waited_for m b.locks q.processor block) to
+  marked_waiting h r to = by_same (eqb r q.processor)
+    where
+      by_same : (t : Bool) → cond t (Some block) (l.waits r) ≡ Some to → Marked (waited_for m b.locks q.processor block) to
+      by_same true e = let is : block ≡ to = cc in subst (λ x. Marked (waited_for m b.locks q.processor block) x) is (newly_marked m b.locks q.processor block h)
+      by_same false e = still_marked m b.locks q.processor block to (marked r to e)
+
+  marked_done : AllMarked (locks_settled q.command q.address b.locks used) (done_by q.processor q.address (ul_sent q.command b.locks used) q.command l)
+  marked_done r to e =
+      let ul = ul_sent q.command b.locks used in
+      let waits : cond ul (wake block (l.waits r)) (l.waits r) ≡ Some to
+          = ap (λ u. cond u (wake block (l.waits r)) (l.waits r)) (sym (ul_quiet m b.locks q q.command refl)) ∙ sym (done_waits l q.command q.processor q.address r ul) ∙ e in
+      let still = still_waits ul block to (l.waits r) waits in
+      marked_settled m b.locks q used refl to (marked r to still.0) still.1
+
+  pub marked_kept : (o : Outcome) → Shape m b.processors b.lines b.locks b.memory q o → AllMarked o.locks (command_fed q o.answer l)
+  marked_kept o (refused e is) = subst (λ x. AllMarked x.locks (command_fed q x.answer l)) (sym is) marked
+  marked_kept o (waited w) =
+      let effect = w.facts.effect in
+      let hit = hit_by (asks_for_block effect.bus) effect.lk (holder_of m b.locks q.processor block) w.blocker (sym (ap lock_hit w.facts.is) ∙ w.hit) in
+      subst (λ x. AllMarked x.locks (command_fed q x.answer l)) (sym w.is)
+      (λ r to e. subst (λ c. Marked (waited_for m b.locks c.processor c.block) to) (sym w.facts.is) (marked_waiting hit r to e))
+  marked_kept o (finished f) =
+      subst (λ x. AllMarked x.locks (command_fed q x.answer l)) (sym f.is)
+      (subst (λ c. AllMarked (locks_settled c.command c.address b.locks c.entry) (done_by q.processor q.address (ul_sent c.command b.locks c.entry) q.command l))
+      (sym f.facts.is) marked_done)
+
+  -- what a command leaves of a block: without a lock nobody waits
+  wakes_on : m.processors ≤ 8 → Kept m b l → locked m (command_fed q (command_on m b q).answer l) block ≡ false
+      → (r : ℕ) → waits_in block ((command_fed q (command_on m b q).answer l).waits r) ≡ false
+  wakes_on few k =
+      nobody_waits m (left_by m b (command q)) (command_fed q (command_on m b q).answer l) (kept_on m b l few k (command q))
+      (marked_kept (command_on m b q) (shape m b.processors b.lines b.locks b.memory q)) block
+
+  pub wakes_law : m.processors ≤ 8 → Kept m b l → releases_lock q.command ≡ true
+      → OnDone (command_on m b q).answer (λ done. let after = command_fed q (Ok (Done done)) l in
+      locked m after block ≡ false → (r : ℕ) → waits_in block (after.waits r) ≡ false)
+  wakes_law few k releases = by_answer (command_on m b q).answer (wakes_on few k)
+    where
+      by_answer : (a : Result Answer Refusal)
+          → (locked m (command_fed q a l) block ≡ false → (r : ℕ) → waits_in block ((command_fed q a l).waits r) ≡ false)
+          → OnDone a (λ done. let after = command_fed q (Ok (Done done)) l in locked m after block ≡ false → (r : ℕ) → waits_in block (after.waits r) ≡ false)
+      by_answer (Ok (Done done)) h = h
+      by_answer (Ok (Wait hit)) h = tt
+      by_answer (Err e) h = tt
+
+-- at the start nobody holds or waits
+pub new_one_holder : (mem : Mem) → OneHolder (opened mem)
+new_one_holder mem p q a c h = absurd (false≢true h)
+
+pub new_marked : (locks : List LockEntry) (mem : Mem) → AllMarked locks (opened mem)
+new_marked locks mem r block e = absurd (cc)
+
+pub new_listed : (m : Measures) (mem : Mem) → HoldersListed m (opened mem)
+new_listed m mem p a h = absurd (false≢true h)
