@@ -1,5 +1,5 @@
 -- No two processors hold locks in one block, and WAIT is answered exactly where another holds one.
-use Rattle.std.proofs.Common.{◌≡◌, ℕ, zero, suc, ◌+◌, ◌*◌, ◌/◌, ◌<◌, ◌≤◌, Bool, true, false, cond, not, ◌&&◌, ◌||◌, eqb, leb, ◌⊎◌, is_some, Some, None, Option, sym, refl, ap, ◌∙◌, subst, inl, inr, arith}
+use Rattle.std.proofs.Common.{◌≡◌, ℕ, ◌/◌, ◌<◌, Bool, true, false, cond, not, ◌&&◌, ◌||◌, eqb, leb, ◌⊎◌, is_some, Some, None, Option, sym, refl, ap, ◌∙◌, subst, inl, inr, arith}
 use Prim.{tt}
 use Rattle.std.proofs.lemmas.Bool.{false≢true, cond_both, false_from_ne_true}
 use Rattle.std.proofs.lemmas.Bool.Decides.{eqb_tells, nat_tests}
@@ -29,7 +29,7 @@ use Rattle.law.specs.Ledger.{Ledger, block_of, command_fed, done_by}
 use Rattle.law.proofs.Holds.{held_after, done_holds}
 use Rattle.law.proofs.Invariant.{at_in, copy, HolderAlone, OneHolder}
 use Rattle.law.proofs.LockLaw.{address_in, block_in, held_is, holder_is}
-use Rattle.law.proofs.Shapes.{Shape, refused, waited, finished, Finished, Admitted, met}
+use Rattle.law.proofs.Shapes.{Shape, refused, waited, finished, Finished}
 use Rattle.law.proofs.Told.{Kept}
 
 -- only processors of the geometry hold locks

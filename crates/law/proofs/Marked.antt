@@ -1,6 +1,6 @@
 -- Who waits for a block has an entry that somebody waits for, and so a block without locks has nobody that waits for it.
 use Prim.{tt}
-use Rattle.std.proofs.Common.{◌≡◌, ℕ, zero, suc, ◌+◌, ◌*◌, ◌/◌, ◌<◌, ◌≤◌, Bool, true, false, cond, not, ◌&&◌, eqb, ltb, leb, ◌⊎◌, List, [], ◌∷◌, length, get_or, set, is_some, Some, None, Ok, Err, Option, Result, sym, refl, ap, ◌∙◌, subst, inl, inr, suc-mul, arith, length-set}
+use Rattle.std.proofs.Common.{◌≡◌, ℕ, zero, suc, ◌+◌, ◌*◌, ◌<◌, ◌≤◌, Bool, true, false, cond, not, ◌&&◌, eqb, ◌⊎◌, List, [], ◌∷◌, length, get_or, is_some, Some, None, Ok, Err, Option, Result, sym, refl, ap, ◌∙◌, subst, inl, inr, suc-mul, arith, length-set}
 use Rattle.std.proofs.lemmas.List.{get_or-set_other}
 use Rattle.std.proofs.lemmas.Bool.{false≢true, cond_both, false_from_ne_true}
 use Rattle.std.proofs.lemmas.Bool.Decides.{eqb_tells, leb_tells, nat_tests}
@@ -13,7 +13,7 @@ use Rattle.protocol.specs.declared.lock.LockState.TheVariants.{E, L, LW}
 use Rattle.protocol.specs.declared.measures.Measures.{Measures}
 use Rattle.protocol.specs.declared.refusal.Refusal.{Refusal}
 use Rattle.protocol.specs.Entries.{locked as entry_locked}
-use Rattle.protocol.specs.Finding.{unused, lowest_from}
+use Rattle.protocol.specs.Finding.{unused}
 use Rattle.protocol.specs.Places.{locks_start}
 use Rattle.protocol.proofs.Finding.{Lowest, lowest_tells}
 use Rattle.memory.specs.Meaning.{Mem}
@@ -21,16 +21,15 @@ use Rattle.cluster.specs.Doing.{asks_for_block, lock_hit}
 use Rattle.cluster.specs.Locks.{in_use, locks_from, locks_block, entry_of, held_entry, free_entry, has_lock, other_lock, holder_of, own_entry, waited_at, waited_for, waits_on, somebody_waits}
 use Rattle.cluster.specs.Making.{blank_entry}
 use Rattle.cluster.specs.Refusing.{entry_used}
-use Rattle.cluster.specs.Rule.{Outcome, waiting}
+use Rattle.cluster.specs.Rule.{Outcome}
 use Rattle.cluster.specs.Settling.{takes_lock, releases_lock, locks_settled, ul_sent}
 use Rattle.cluster.specs.Tables.{map_from}
-use Rattle.cluster.specs.Waiting.{waits_for}
 use Rattle.law.specs.Calls.{Board, command, command_on, left_by}
 use Rattle.law.specs.Law.{OnDone, locks_in, locked}
 use Rattle.law.specs.Ledger.{Ledger, block_of, opened, waits_in, command_fed, done_by}
 use Rattle.law.proofs.Awaits.{wake, done_waits, ul_quiet}
 use Rattle.law.proofs.Invariant.{OneHolder, Marked, AllMarked}
-use Rattle.law.proofs.LockLaw.{the_some, Stands, stands, locks_at, blocked_at, block_in, entry_holds}
+use Rattle.law.proofs.LockLaw.{the_some, stands, locks_at, blocked_at, block_in, entry_holds}
 use Rattle.law.proofs.LocksKept.{HoldersListed, some_passes, hit_by}
 use Rattle.law.proofs.Shapes.{Shape, refused, waited, finished, shape}
 use Rattle.law.proofs.Told.{Kept, kept_on, length-map}
@@ -204,7 +203,7 @@ module _ (m : Measures) (b : Board) (l : Ledger) (marked : AllMarked b.locks l) 
   marked_done r to e =
       let ul = ul_sent q.command b.locks used in
       let waits : cond ul (wake block (l.waits r)) (l.waits r) ≡ Some to
-          = ap (λ u. cond u (wake block (l.waits r)) (l.waits r)) (sym (ul_quiet m b.locks q q.command refl)) ∙ sym (done_waits l q.command q.processor q.address r ul) ∙ e in
+      = ap (λ u. cond u (wake block (l.waits r)) (l.waits r)) (sym (ul_quiet m b.locks q q.command refl)) ∙ sym (done_waits l q.command q.processor q.address r ul) ∙ e in
       let still = still_waits ul block to (l.waits r) waits in
       marked_settled m b.locks q used refl to (marked r to still.0) still.1
 
