@@ -29,7 +29,7 @@ use Rattle.law.proofs.Shapes.{Shape, refused, waited, finished, met}
 abbrev wait_at : List Processor → ℕ → Option ℕ
 wait_at ps r = (get_or ps r resting).waits_for
 
-abbrev wake : ℕ → Option ℕ → Option ℕ
+abbrev pub wake : ℕ → Option ℕ → Option ℕ
 wake block w = cond (waits_for block w) None w
 
 at_set : (ps : List Processor) (p r : ℕ) (x : Processor) → p < length ps → wait_at (set ps p x) r ≡ cond (eqb r p) x.waits_for (wait_at ps r)
@@ -78,7 +78,7 @@ released_waits : (l : Ledger) (processor address r : ℕ) (b : Bool) → (releas
 released_waits l processor address r true = refl
 released_waits l processor address r false = refl
 
-done_waits : (l : Ledger) (c : Command) (processor address r : ℕ) (b : Bool)
+pub done_waits : (l : Ledger) (c : Command) (processor address r : ℕ) (b : Bool)
     → (done_by processor address b c l).waits r ≡ cond (releases_lock c && b) (wake (address / 4) (l.waits r)) (l.waits r)
 done_waits l R processor address r b = refl
 done_waits l (W word) processor address r b = refl
@@ -91,7 +91,7 @@ done_waits l (UW word) processor address r b = released_waits (entered address w
 done_waits l U processor address r b = released_waits l processor address r b
 
 -- UL is sent by releases alone
-ul_quiet : (m : Measures) (locks : List LockEntry) (q : Request) (c : Command) → q.command ≡ c
+pub ul_quiet : (m : Measures) (locks : List LockEntry) (q : Request) (c : Command) → q.command ≡ c
     → (releases_lock c && ul_sent c locks (entry_used m locks q)) ≡ ul_sent c locks (entry_used m locks q)
 ul_quiet m locks q R e = rw e refl
 ul_quiet m locks q (W word) e = rw e refl

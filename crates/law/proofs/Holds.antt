@@ -53,14 +53,14 @@ waited_seen m asking block a i e = by_own (own_entry m asking i) (in_use e) (leb
     by_own false true true true h = ap (λ x. x && leb a e.address && leb e.address a) (sym h)
 
 -- what a done command leaves of the locks in the ledger
-abbrev changed : ℕ → ℕ → Bool → Ledger → ℕ → ℕ → Bool
+abbrev pub changed : ℕ → ℕ → Bool → Ledger → ℕ → ℕ → Bool
 changed processor address held l p a = cond (eqb p processor && eqb a address) held (l.holds p a)
 
-abbrev held_after : Command → ℕ → ℕ → Ledger → ℕ → ℕ → Bool
+abbrev pub held_after : Command → ℕ → ℕ → Ledger → ℕ → ℕ → Bool
 held_after c processor address l p a =
     cond (takes_lock c) (changed processor address true l p a) (cond (releases_lock c) (changed processor address false l p a) (l.holds p a))
 
-done_holds : (l : Ledger) (c : Command) (processor address : ℕ) (b : Bool) (p a : ℕ) → (done_by processor address b c l).holds p a ≡ held_after c processor address l p a
+pub done_holds : (l : Ledger) (c : Command) (processor address : ℕ) (b : Bool) (p a : ℕ) → (done_by processor address b c l).holds p a ≡ held_after c processor address l p a
 done_holds l R processor address b p a = refl
 done_holds l (W word) processor address b p a = refl
 done_holds l (DW word) processor address b p a = cond_both (eqb (address % 4) 0) _ _ (λ (k : Ledger). k.holds p a ≡ l.holds p a) (λ e. refl) (λ e. refl)

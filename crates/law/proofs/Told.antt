@@ -31,12 +31,12 @@ use Rattle.std.specs.List.{count_by}
 use Rattle.std.proofs.lemmas.List.Folds.{sum_by-replicate}
 use Rattle.std.proofs.lemmas.List.Sums.{sum_by-take-drop, sum_by-take-le}
 
-length-map : {X : Type 0} (f : ℕ → X → X) (at : ℕ) (xs : List X) → length (map_from f at xs) ≡ length xs
+pub length-map : {X : Type 0} (f : ℕ → X → X) (at : ℕ) (xs : List X) → length (map_from f at xs) ≡ length xs
 length-map f at [] = refl
 length-map f at (x ∷ xs) = ap suc (length-map f (at + 1) xs)
 
 -- the tables keep their lengths
-length_settled : (c : Command) (a : ℕ) (locks : List LockEntry) (entry : Option ℕ) → length (locks_settled c a locks entry) ≡ length locks
+pub length_settled : (c : Command) (a : ℕ) (locks : List LockEntry) (entry : Option ℕ) → length (locks_settled c a locks entry) ≡ length locks
 length_settled c a locks None = refl
 length_settled c a locks (Some place) = length-set locks place _
 
