@@ -19,6 +19,7 @@ pub mod Placing
 pub mod Doing
 pub mod Hits
 pub mod Misses
+pub mod Commands
 pub mod LockLaw
 pub mod LocksKept
 pub mod Marked

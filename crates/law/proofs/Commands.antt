@@ -1,0 +1,149 @@
+-- What every command leaves: coherent lines, the ledger's words, the holder's copies.
+use Rattle.std.proofs.Common.{◌≡◌, ℕ, ◌/◌, ◌<◌, Bool, true, false, cond, not, ◌&&◌, eqb, List, length, set, Some, None, Ok, Option, sym, refl, ap, ◌∙◌, ◌⊎◌, subst, inl, inr, length-set}
+use Rattle.std.proofs.lemmas.Bool.{false≢true, cond_both, and_parts}
+use Rattle.std.proofs.lemmas.Bool.Decides.{eqb_tells}
+use Rattle.protocol.specs.declared.answer.Answer.TheVariants.{Done as done_answer, Wait}
+use Rattle.protocol.specs.declared.command.BusCommand.{BusCommand}
+use Rattle.protocol.specs.declared.command.Command.{Command}
+use Rattle.protocol.specs.declared.command.Request.{Request}
+use Rattle.protocol.specs.declared.line.Line.{Line}
+use Rattle.protocol.specs.declared.lock.LockEntry.{LockEntry}
+use Rattle.protocol.specs.declared.measures.Measures.{Measures}
+use Rattle.protocol.specs.Entries.{modified}
+use Rattle.protocol.specs.Places.{line_count}
+use Rattle.memory.specs.Meaning.{Mem}
+use Rattle.cluster.specs.declared.cluster.Processor.{Processor}
+use Rattle.cluster.specs.declared.ways.Taken.{Taken}
+use Rattle.cluster.specs.Cases.{own_place}
+use Rattle.cluster.specs.Copies.{line_of}
+use Rattle.cluster.specs.Doing.{is_unlock, victim_of, memory_after}
+use Rattle.cluster.specs.Finishing.{placed, bus_seen}
+use Rattle.cluster.specs.Refusing.{entry_used}
+use Rattle.cluster.specs.Rule.{Outcome}
+use Rattle.cluster.specs.Settling.{takes_lock, releases_lock, ul_sent}
+use Rattle.law.specs.Law.{OnDone, owner, reads}
+use Rattle.law.specs.Ledger.{Ledger, block_of, command_fed, done_by}
+use Rattle.law.proofs.Doing.{Done, done, taken_with}
+use Rattle.law.proofs.Hits as hits
+use Rattle.law.proofs.Holds.{done_holds}
+use Rattle.law.proofs.Invariant.{at_in, copy, Coherent, Homed, Tied, HolderAlone}
+use Rattle.law.proofs.Leaving.{Truth, by_kind}
+use Rattle.law.proofs.Misses as misses
+use Rattle.law.proofs.Moving.{Moved, before, same_after, homed_after, modified_valid, copy_from}
+use Rattle.law.proofs.Owning.{Only}
+use Rattle.law.proofs.Placing.{length_seen}
+use Rattle.law.proofs.Replacing.{without, homed_replaced, holder_replaced, swapped, given_back}
+use Rattle.law.proofs.Shapes.{Shape, refused, waited, finished, Finished, action_of}
+use Rattle.law.proofs.Words.{tied_same}
+
+-- what is kept of lines and words, beside locks and waits
+pub record Settled (m : Measures) (lines : List Line) (mem : ℕ → List ℕ) (l : Ledger) : Type 0 where
+  pub fit : length lines ≡ line_count m
+  pub homed : Homed m (at_in lines)
+  pub truth : Truth (at_in lines) mem l
+  pub holder : HolderAlone m (at_in lines) l
+  pub four : (block : ℕ) → length (mem block) ≡ 4
+
+-- a lock that the ledger has after a done command was there before, or the command took it
+data Lock (c : Command) (p0 a0 : ℕ) (l : Ledger) (p a : ℕ) : Type 0 where
+  older : l.holds p a ≡ true → Lock c p0 a0 l p a
+  newer : takes_lock c ≡ true → p ≡ p0 → a ≡ a0 → Lock c p0 a0 l p a
+
+lock_of : (c : Command) (p0 a0 : ℕ) (b : Bool) (l : Ledger) (p a : ℕ) → (done_by p0 a0 b c l).holds p a ≡ true → Lock c p0 a0 l p a
+lock_of c p0 a0 b l p a h = by_takes (takes_lock c) (releases_lock c) refl (sym (done_holds l c p0 a0 b p a) ∙ h)
+  where
+    by_same : (s : Bool) → cond s false (l.holds p a) ≡ true → l.holds p a ≡ true
+    by_same true x = absurd (cc)
+    by_same false x = x
+
+    same : (i j : ℕ) → eqb i j ≡ true → i ≡ j
+    same i j h = elim (eqb_tells i j) [
+      | inl is ↦ is.1
+      | inr other ↦ absurd (false≢true (sym other.0 ∙ h))
+    ]
+
+    by_new : takes_lock c ≡ true → (s t : Bool) → eqb p p0 ≡ s → eqb a a0 ≡ t → cond (s && t) true (l.holds p a) ≡ true → Lock c p0 a0 l p a
+    by_new e true true es et x = newer e (same p p0 es) (same a a0 et)
+    by_new e true false es et x = older x
+    by_new e false t es et x = older x
+
+    by_takes : (t r : Bool) → takes_lock c ≡ t
+        → cond t (cond (eqb p p0 && eqb a a0) true (l.holds p a)) (cond r (cond (eqb p p0 && eqb a a0) false (l.holds p a)) (l.holds p a)) ≡ true
+        → Lock c p0 a0 l p a
+    by_takes true r e x = by_new e (eqb p p0) (eqb a a0) refl refl x
+    by_takes false true e x = older (by_same (eqb p p0 && eqb a a0) x)
+    by_takes false false e x = older x
+
+-- only the holder has copies, after a done command too
+module _ (m : Measures) (at after : ℕ → Line) (block k asking : ℕ) (bus : Option BusCommand) (own : Line) (moved : Moved m at after block k asking bus own) where
+  holder_after : (l : Ledger) → HolderAlone m at l → ((p a : ℕ) → l.holds p a ≡ true → block_of a ≡ block → p ≡ asking)
+      → (c : Command) (a0 : ℕ) (b : Bool) → block_of a0 ≡ block → (takes_lock c ≡ true → Only m at after block k asking bus own moved)
+      → HolderAlone m after (done_by asking a0 b c l)
+  holder_after l alone mine c a0 b at_block only p a i h ci = by_lock (lock_of c asking a0 b l p a h)
+    where
+      by_lock : Lock c asking a0 l p a → owner m i ≡ p
+      by_lock (newer t p_is a_is) =
+          let of_block : block_of a ≡ block = ap block_of a_is ∙ at_block in
+          ap (owner m) (only t i (subst (λ x. copy after x i) of_block ci)) ∙ moved.owned ∙ sym p_is
+      by_lock (older was) = elim (eqb_tells (block_of a) block) [
+        | inl same ↦ elim (eqb_tells i k) [
+          | inl here ↦ ap (owner m) here.1 ∙ moved.owned ∙ sym (mine p a was same.1)
+          | inr far ↦ alone p a i was (before m at after block k asking bus own moved (block_of a) i far.1 ci)
+        ]
+        | inr else ↦ alone p a i was (same_after m at after block k asking bus own moved (block_of a) i else.1 ci).0
+      ]
+
+module _ (m : Measures) (some_columns : 0 < m.columns) (some_ways : 0 < m.ways) (ps : List Processor) (lines : List Line) (locks : List LockEntry) (mem : Mem)
+    (q : Request) (l : Ledger) (was : Settled m lines mem.words l) where
+  abbrev block : ℕ
+  block = block_of q.address
+
+  abbrev truth : ℕ → List ℕ
+  truth = was.truth.words
+
+  abbrev coherent : Coherent (at_in lines) mem.words truth
+  coherent = was.truth.coherent
+
+  abbrev after_ledger : Bool → Ledger
+  after_ledger ul = done_by q.processor q.address ul q.command l
+
+  -- a victim's words are four too
+  victim_four : (k b : ℕ) → length (given_back (at_in lines) k mem.words b) ≡ 4
+  victim_four k b =
+      cond_both (modified (at_in lines k).state && eqb b (at_in lines k).block) (at_in lines k).words (mem.words b) (λ (x : List ℕ). length x ≡ 4)
+      (λ h. ap length (coherent.agree (at_in lines k).block k (copy_from (at_in lines k).block (at_in lines k) (modified_valid (at_in lines k).state (and_parts _ _ h).0) refl))
+      ∙ was.truth.tied.four (at_in lines k).block)
+      (λ h. was.four b)
+
+  module _ (o : Outcome) (d : Done m ps lines locks mem q o) (mine : (p a : ℕ) → l.holds p a ≡ true → block_of a ≡ block → p ≡ q.processor) where
+    abbrev ul : Bool
+    ul = ul_sent q.command locks (entry_used m locks q)
+
+    abbrev own : Line
+    own = hits.own m some_columns some_ways ps lines locks mem q was.fit was.homed truth coherent o d
+
+    abbrev left_lines : Option ℕ → Option Taken → List Line
+    left_lines place taken = placed (own_place place taken) own (bus_seen m d.effect.bus q.processor block lines)
+
+    abbrev left_words : Option Taken → ℕ → List ℕ
+    left_words taken = (memory_after mem (victim_of lines taken)).words
+
+    abbrev SettledAfter : Option ℕ → Option Taken → Type 0
+    SettledAfter place taken = Settled m (left_lines place taken) (left_words taken) (after_ledger ul)
+
+    after_hit : (k : ℕ) → line_of m lines q.processor block ≡ Some k → SettledAfter (Some k) None
+    after_hit k e =
+        let at = hits.hit_at m some_columns some_ways ps lines locks mem q was.fit was.homed truth coherent o d k e in
+        let moved = hits.moved m some_columns some_ways ps lines locks mem q was.fit was.homed truth coherent o d k e in
+        record {
+          fit = length-set _ k own ∙ length_seen m some_columns lines was.fit was.homed q.processor block d.known d.effect.bus ∙ was.fit;
+          homed = homed_after m (at_in lines) at block k q.processor d.effect.bus own moved was.homed;
+          truth =
+              by_kind m (at_in lines) at k q.processor d.effect.bus q.command q.address d.supply.words _ moved mem.words truth coherent l was.truth.tied ul
+              (λ h. hits.hit_words m some_columns some_ways ps lines locks mem q was.fit was.homed truth coherent o d k e) (was.four block)
+              (hits.hit_kind m some_columns some_ways ps lines locks mem q was.fit was.homed truth coherent o d k e);
+          holder =
+              holder_after m (at_in lines) at block k q.processor d.effect.bus own moved l was.holder mine q.command q.address ul refl
+              (hits.hit_lock_only m some_columns some_ways ps lines locks mem q was.fit was.homed truth coherent o d k e);
+          four = was.four;
+        }
