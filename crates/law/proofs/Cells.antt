@@ -403,3 +403,38 @@ module _ (address : ℕ) (found : State) (elsewhere : Bool) where
   acts_reads command.LR h = (refl, refl)
   acts_reads (command.UW word) h = absurd (cc)
   acts_reads command.U h = absurd (cc)
+
+  pub acts_unlock : (c : Command) → is_unlock (acting c) ≡ true → c ≡ command.U
+  acts_unlock command.R h = absurd (cc)
+  acts_unlock (command.W word) h = absurd (cc)
+  acts_unlock (command.DW word) h = by_start (eqb (address % 4) 0) h
+    where
+      by_start : (b : Bool) → is_unlock (cond b DW W) ≡ true → command.DW word ≡ command.U
+      by_start true e = absurd (cc)
+      by_start false e = absurd (cc)
+  acts_unlock command.RI h = absurd (cc)
+  acts_unlock command.RP h = absurd (cc)
+  acts_unlock command.RB h = by_last (eqb (address % 4) 3) (not (valid found) && elsewhere) h
+    where
+      by_last : (b d : Bool) → is_unlock (cond b RP (cond d RI R)) ≡ true → command.RB ≡ command.U
+      by_last true d e = absurd (cc)
+      by_last false true e = absurd (cc)
+      by_last false false e = absurd (cc)
+  acts_unlock command.LR h = absurd (cc)
+  acts_unlock (command.UW word) h = absurd (cc)
+  acts_unlock command.U h = refl
+
+-- a U that finds I sends nothing
+pub unlock_quiet : (a : Action) (e : Effect) → is_unlock a ≡ true → cell_of a I ≡ Some e → e.bus ≡ None
+unlock_quiet U e h is = sym (ap (λ o. bus_of o) is)
+  where
+    bus_of : Option Effect → Option BusCommand
+    bus_of None = None
+    bus_of (Some x) = x.bus
+unlock_quiet R e h is = absurd (cc)
+unlock_quiet W e h is = absurd (cc)
+unlock_quiet DW e h is = absurd (cc)
+unlock_quiet RI e h is = absurd (cc)
+unlock_quiet RP e h is = absurd (cc)
+unlock_quiet LR e h is = absurd (cc)
+unlock_quiet UW e h is = absurd (cc)

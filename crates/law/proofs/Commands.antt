@@ -1,28 +1,35 @@
 -- What every command leaves: coherent lines, the ledger's words, the holder's copies.
-use Rattle.std.proofs.Common.{◌≡◌, ℕ, ◌/◌, ◌<◌, Bool, true, false, cond, not, ◌&&◌, eqb, List, length, set, Some, None, Ok, Option, sym, refl, ap, ◌∙◌, ◌⊎◌, subst, inl, inr, length-set}
+use Rattle.std.proofs.Common.{◌≡◌, ℕ, ◌/◌, ◌%◌, ◌<◌, Bool, true, false, cond, not, ◌&&◌, eqb, List, length, get_or, set, is_some, IfSome, Some, None, Ok, Option, sym, refl, ap, ◌∙◌, ◌⊎◌, subst, inl, inr, length-set}
 use Rattle.std.proofs.lemmas.Bool.{false≢true, cond_both, and_parts}
 use Rattle.std.proofs.lemmas.Bool.Decides.{eqb_tells}
 use Rattle.protocol.specs.declared.answer.Answer.TheVariants.{Done as done_answer, Wait}
+use Rattle.protocol.specs.declared.command.Action.{Action}
 use Rattle.protocol.specs.declared.command.BusCommand.{BusCommand}
 use Rattle.protocol.specs.declared.command.Command.{Command}
+use Rattle.protocol.specs.declared.command.Command.TheVariants.{U}
 use Rattle.protocol.specs.declared.command.Request.{Request}
 use Rattle.protocol.specs.declared.line.Line.{Line}
 use Rattle.protocol.specs.declared.lock.LockEntry.{LockEntry}
 use Rattle.protocol.specs.declared.measures.Measures.{Measures}
-use Rattle.protocol.specs.Entries.{modified}
+use Rattle.protocol.specs.Acting.{word_answered}
+use Rattle.protocol.specs.Entries.{valid, modified}
 use Rattle.protocol.specs.Places.{line_count}
+use Rattle.protocol.specs.StateTable.{cell_of}
 use Rattle.memory.specs.Meaning.{Mem}
 use Rattle.cluster.specs.declared.cluster.Processor.{Processor}
 use Rattle.cluster.specs.declared.ways.Taken.{Taken}
 use Rattle.cluster.specs.Cases.{own_place}
-use Rattle.cluster.specs.Copies.{line_of}
-use Rattle.cluster.specs.Doing.{is_unlock, victim_of, memory_after}
+use Rattle.cluster.specs.Copies.{line_of, line_at, supplier_of}
+use Rattle.cluster.specs.Doing.{is_unlock, victim_of, swapped_out, memory_after}
 use Rattle.cluster.specs.Finishing.{placed, bus_seen}
+use Rattle.cluster.specs.Making.{resting}
 use Rattle.cluster.specs.Refusing.{entry_used}
 use Rattle.cluster.specs.Rule.{Outcome}
 use Rattle.cluster.specs.Settling.{takes_lock, releases_lock, ul_sent}
+use Rattle.cluster.specs.Ways.{taken_way}
 use Rattle.law.specs.Law.{OnDone, owner, reads}
 use Rattle.law.specs.Ledger.{Ledger, block_of, command_fed, done_by}
+use Rattle.law.proofs.Cells.{acts_reads, acts_unlock, unlock_quiet}
 use Rattle.law.proofs.Doing.{Done, done, taken_with}
 use Rattle.law.proofs.Hits as hits
 use Rattle.law.proofs.Holds.{done_holds}
@@ -33,8 +40,8 @@ use Rattle.law.proofs.Moving.{Moved, before, same_after, homed_after, modified_v
 use Rattle.law.proofs.Owning.{Only}
 use Rattle.law.proofs.Placing.{length_seen}
 use Rattle.law.proofs.Replacing.{without, homed_replaced, holder_replaced, swapped, given_back}
-use Rattle.law.proofs.Shapes.{Shape, refused, waited, finished, Finished, action_of}
-use Rattle.law.proofs.Words.{tied_same}
+use Rattle.law.proofs.Shapes.{Shape, refused, waited, finished, Finished, found, action_of}
+use Rattle.law.proofs.Words.{answered_is, done_words, fresh, tied_same}
 
 -- what is kept of lines and words, beside locks and waits
 pub record Settled (m : Measures) (lines : List Line) (mem : ℕ → List ℕ) (l : Ledger) : Type 0 where
@@ -119,6 +126,9 @@ module _ (m : Measures) (some_columns : 0 < m.columns) (some_ways : 0 < m.ways) 
     abbrev ul : Bool
     ul = ul_sent q.command locks (entry_used m locks q)
 
+    abbrev acting : Action
+    acting = action_of m ps lines locks mem q
+
     abbrev own : Line
     own = hits.own m some_columns some_ways ps lines locks mem q was.fit was.homed truth coherent o d
 
@@ -147,3 +157,89 @@ module _ (m : Measures) (some_columns : 0 < m.columns) (some_ways : 0 < m.ways) 
               (hits.hit_lock_only m some_columns some_ways ps lines locks mem q was.fit was.homed truth coherent o d k e);
           four = was.four;
         }
+
+    -- a way was taken
+    after_miss : (e : line_of m lines q.processor block ≡ None) (u : is_unlock acting ≡ false)
+        → SettledAfter None (Some (misses.way m some_columns some_ways ps lines locks mem q was.fit was.homed truth coherent o d e u))
+    after_miss e u =
+        let k = misses.k m some_columns some_ways ps lines locks mem q was.fit was.homed truth coherent o d e u in
+        let base = misses.base m some_columns some_ways ps lines locks mem q was.fit was.homed truth coherent o d e u in
+        let at = misses.miss_at m some_columns some_ways ps lines locks mem q was.fit was.homed truth coherent o d e u in
+        let moved = misses.moved m some_columns some_ways ps lines locks mem q was.fit was.homed truth coherent o d e u in
+        let taken = misses.miss_taken m some_columns some_ways ps lines locks mem q was.fit was.homed truth coherent o d e u in
+        let back = misses.base_words m some_columns some_ways ps lines locks mem q was.fit was.homed truth coherent o d e u in
+        let base_coherent = misses.base_coherent m some_columns some_ways ps lines locks mem q was.fit was.homed truth coherent o d e u in
+        let granted = subst (λ t. swapped_out mem (victim_of lines t) ≡ Ok d.swapped) taken d.granted in
+        subst (λ w. Settled m (left_lines None (Some (misses.way m some_columns some_ways ps lines locks mem q was.fit was.homed truth coherent o d e u))) w (after_ledger ul))
+        (sym (swapped mem lines (misses.way m some_columns some_ways ps lines locks mem q was.fit was.homed truth coherent o d e u) d.swapped granted))
+        (record {
+          fit = length-set _ k own ∙ length_seen m some_columns lines was.fit was.homed q.processor block d.known d.effect.bus ∙ was.fit;
+          homed = homed_after m base at block k q.processor d.effect.bus own moved (homed_replaced (at_in lines) k m was.homed);
+          truth =
+              by_kind m base at k q.processor d.effect.bus q.command q.address d.supply.words _ moved back truth base_coherent l was.truth.tied ul
+              (misses.miss_words m some_columns some_ways ps lines locks mem q was.fit was.homed truth coherent o d e u) (victim_four k block)
+              (misses.miss_kind m some_columns some_ways ps lines locks mem q was.fit was.homed truth coherent o d e u);
+          holder =
+              holder_after m base at block k q.processor d.effect.bus own moved l (holder_replaced (at_in lines) k m l was.holder) mine q.command q.address ul refl
+              (misses.miss_lock_only m some_columns some_ways ps lines locks mem q was.fit was.homed truth coherent o d e u);
+          four = victim_four k;
+        })
+
+    -- a U that finds I takes none, and changes no line
+    after_unlock : line_of m lines q.processor block ≡ None → is_unlock acting ≡ true → SettledAfter None None
+    after_unlock e u =
+        let quiet : d.effect.bus ≡ None = unlock_quiet acting d.effect u (ap (λ p. cell_of acting (line_at lines p).state) (sym e) ∙ d.cell) in
+        let is_u = acts_unlock q.address (found m ps lines locks mem q) (is_some (supplier_of m lines q.processor block)) q.command u in
+        subst (λ b. Settled m (bus_seen m b q.processor block lines) mem.words (after_ledger ul)) (sym quiet)
+        (subst (λ c. Settled m lines mem.words (done_by q.processor q.address ul c l)) (sym is_u)
+        (record {
+          fit = was.fit;
+          homed = was.homed;
+          truth = record { words = truth; coherent = coherent; tied = tied_same truth l (done_by q.processor q.address ul U l) was.truth.tied (done_words U q.processor q.address ul l) };
+          holder = λ p a i h ci. by_lock p a i ci (lock_of U q.processor q.address ul l p a h);
+          four = was.four;
+        }))
+      where
+        by_lock : (p a i : ℕ) → copy (at_in lines) (block_of a) i → Lock U q.processor q.address l p a → owner m i ≡ p
+        by_lock p a i ci (older h) = was.holder p a i h ci
+        by_lock p a i ci (newer t p_is a_is) = absurd (cc)
+
+    untaken : is_unlock acting ≡ true → taken_with m ps lines locks mem q d.effect ≡ None
+    untaken u = ap (λ b. cond (not b && not (valid (found m ps lines locks mem q))) (Some (taken_way m lines q.processor block (get_or ps q.processor resting).turn)) None) u
+
+    after_done : SettledAfter (line_of m lines q.processor block) (taken_with m ps lines locks mem q d.effect)
+    after_done = by_place (line_of m lines q.processor block) refl
+      where
+        by_unlock : (e : line_of m lines q.processor block ≡ None) (u : Bool) → is_unlock acting ≡ u
+            → SettledAfter None (taken_with m ps lines locks mem q d.effect)
+        by_unlock e true u = subst (λ t. SettledAfter None t) (sym (untaken u)) (after_unlock e u)
+        by_unlock e false u =
+            subst (λ t. SettledAfter None t) (sym (misses.miss_taken m some_columns some_ways ps lines locks mem q was.fit was.homed truth coherent o d e u)) (after_miss e u)
+
+        by_place : (r : Option ℕ) → line_of m lines q.processor block ≡ r → SettledAfter (line_of m lines q.processor block) (taken_with m ps lines locks mem q d.effect)
+        by_place (Some k) e =
+            subst (λ r. SettledAfter r (taken_with m ps lines locks mem q d.effect)) (sym e)
+            (subst (λ t. SettledAfter (Some k) t) (sym (hits.hit_untaken m some_columns some_ways ps lines locks mem q was.fit was.homed truth coherent o d k e)) (after_hit k e))
+        by_place None e = subst (λ r. SettledAfter r (taken_with m ps lines locks mem q d.effect)) (sym e) (by_unlock e (is_unlock acting) refl)
+
+    settled_done : Settled m o.lines o.memory.words (command_fed q o.answer l)
+    settled_done = subst (λ x. Settled m x.lines x.memory.words (command_fed q x.answer l)) (sym d.is) after_done
+
+    -- what a reading command answers
+    words_read : reads q.command ≡ true → d.supply.words ≡ truth block
+    words_read r = by_place (line_of m lines q.processor block) refl
+      where
+        plain : (is_unlock acting ≡ false) × (fresh q.command q.address ≡ false)
+        plain = acts_reads q.address (found m ps lines locks mem q) (is_some (supplier_of m lines q.processor block)) q.command r
+
+        by_place : (k : Option ℕ) → line_of m lines q.processor block ≡ k → d.supply.words ≡ truth block
+        by_place (Some k) e = hits.hit_words m some_columns some_ways ps lines locks mem q was.fit was.homed truth coherent o d k e
+        by_place None e = misses.miss_words m some_columns some_ways ps lines locks mem q was.fit was.homed truth coherent o d e plain.0 plain.1
+
+    reads_done : reads q.command ≡ true → OnDone o.answer (λ done. IfSome (l.words q.address) (λ word. done.word ≡ word))
+    reads_done r = subst (λ x. OnDone x.answer (λ done. IfSome (l.words q.address) (λ word. done.word ≡ word))) (sym d.is) (by_word (l.words q.address) refl)
+      where
+        by_word : (w : Option ℕ) → l.words q.address ≡ w → IfSome w (λ word. word_answered q.command q.address d.supply.words ≡ word)
+        by_word None e = tt
+        by_word (Some word) e =
+            answered_is q.command q.address d.supply.words r ∙ ap (λ ws. get_or ws (q.address % 4) 0) (words_read r) ∙ was.truth.tied.words q.address word e

@@ -122,7 +122,7 @@ module _ (m : Measures) (some_columns : 0 < m.columns) (some_ways : 0 < m.ways) 
 
   -- a command that takes a way
   module _ (takes_one : is_unlock acting ≡ false) where
-    abbrev way : Taken
+    abbrev pub way : Taken
     way = taken_way m lines q.processor block (get_or ps q.processor resting).turn
 
     abbrev pub k : ℕ
