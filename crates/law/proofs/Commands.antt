@@ -222,7 +222,7 @@ module _ (m : Measures) (some_columns : 0 < m.columns) (some_ways : 0 < m.ways) 
             (subst (λ t. SettledAfter (Some k) t) (sym (hits.hit_untaken m some_columns some_ways ps lines locks mem q was.fit was.homed truth coherent o d k e)) (after_hit k e))
         by_place None e = subst (λ r. SettledAfter r (taken_with m ps lines locks mem q d.effect)) (sym e) (by_unlock e (is_unlock acting) refl)
 
-    settled_done : Settled m o.lines o.memory.words (command_fed q o.answer l)
+    pub settled_done : Settled m o.lines o.memory.words (command_fed q o.answer l)
     settled_done = subst (λ x. Settled m x.lines x.memory.words (command_fed q x.answer l)) (sym d.is) after_done
 
     -- what a reading command answers
@@ -236,7 +236,7 @@ module _ (m : Measures) (some_columns : 0 < m.columns) (some_ways : 0 < m.ways) 
         by_place (Some k) e = hits.hit_words m some_columns some_ways ps lines locks mem q was.fit was.homed truth coherent o d k e
         by_place None e = misses.miss_words m some_columns some_ways ps lines locks mem q was.fit was.homed truth coherent o d e plain.0 plain.1
 
-    reads_done : reads q.command ≡ true → OnDone o.answer (λ done. IfSome (l.words q.address) (λ word. done.word ≡ word))
+    pub reads_done : reads q.command ≡ true → OnDone o.answer (λ done. IfSome (l.words q.address) (λ word. done.word ≡ word))
     reads_done r = subst (λ x. OnDone x.answer (λ done. IfSome (l.words q.address) (λ word. done.word ≡ word))) (sym d.is) (by_word (l.words q.address) refl)
       where
         by_word : (w : Option ℕ) → l.words q.address ≡ w → IfSome w (λ word. word_answered q.command q.address d.supply.words ≡ word)

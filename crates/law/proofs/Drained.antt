@@ -1,6 +1,6 @@
 -- What a drain keeps, and that memory then has the words of each block.
 use Rattle.std.proofs.Common.{◌≡◌, ℕ, zero, suc, ◌+◌, ◌-◌, ◌<◌, ◌≤◌, ◌%◌, Bool, true, false, cond, ◌&&◌, eqb, ltb, ◌⊎◌, List, [], ◌∷◌, length, get_or, IfSome, Some, None, Ok, Err, Option, Result, sym, refl, ap, subst, ◌∙◌, inl, inr, arith}
-use Rattle.std.proofs.lemmas.Bool.{false≢true}
+use Rattle.std.proofs.lemmas.Bool.{false≢true, and_parts, cond_both}
 use Rattle.std.proofs.lemmas.Bool.Decides.{eqb_tells, leb_tells, nat_tests}
 use Rattle.protocol.specs.declared.line.Line.{Line}
 use Rattle.protocol.specs.declared.measures.Measures.{Measures}
@@ -15,7 +15,7 @@ use Rattle.upkeep.specs.Counting.{lines_fit}
 use Rattle.upkeep.specs.Draining.{Drain, DrainOutcome, behind, written_back, memory_back, unless_stopped, drain_from, costed, drain_rule}
 use Rattle.law.specs.Ledger.{Ledger, block_of, word_at}
 use Rattle.law.proofs.Invariant.{at_in, Coherent, Homed, Tied, HolderAlone}
-use Rattle.law.proofs.Replacing.{Fewer, copy_valid, homed_fewer, holder_fewer, without, given_back, replaced, granted_write}
+use Rattle.law.proofs.Replacing.{Fewer, copy_valid, homed_fewer, holder_fewer, without, given_back, replaced, granted_write, modified_valid, own_copy}
 
 abbrev is_finished : {X : Type 0} → Result X Refusal → Bool
 is_finished (Ok x) = true
@@ -191,6 +191,31 @@ module _ (truth : ℕ → List ℕ) where
     drained_memory c n h block = (drained_coherent c).clean block
         (λ i held. absurd (false≢true (sym (drained_blank blocks lines mem n h i) ∙ copy_valid (at_in drain.lines) block i held)))
 
+-- each valid line has four words
+FourEach : List Line → Type 0
+FourEach lines = (i : ℕ) → valid (at_in lines i).state ≡ true → length (at_in lines i).words ≡ 4
+
+back_four : (line : Line) (words : ℕ → List ℕ) → (valid line.state ≡ true → length line.words ≡ 4) → ((b : ℕ) → length (words b) ≡ 4)
+    → (b : ℕ) → length (given_back (λ k. line) 0 words b) ≡ 4
+back_four line words has all b =
+    cond_both (modified line.state && eqb b line.block) line.words (words b) (λ (x : List ℕ). length x ≡ 4)
+    (λ h. has (modified_valid line.state (and_parts _ _ h).0)) (λ h. all b)
+
+drained_four : (blocks : ℕ) (lines : List Line) (mem : Mem) → FourEach lines → ((b : ℕ) → length (mem.words b) ≡ 4)
+    → (b : ℕ) → length ((drain_from blocks lines mem).memory.words b) ≡ 4
+unfolding FourEach
+drained_four blocks [] mem each all = all
+drained_four blocks (line ∷ lines) mem each all =
+    by_step (step blocks line lines mem) (λ n. drained_four (blocks + n) lines (memory_back mem line) (λ i. each (suc i)))
+  where
+    by_step : Step blocks line lines mem
+        → ((n : ℕ) → ((b : ℕ) → length ((memory_back mem line).words b) ≡ 4) → (b : ℕ) → length ((drain_from (blocks + n) lines (memory_back mem line)).memory.words b) ≡ 4)
+        → (b : ℕ) → length ((drain_from blocks (line ∷ lines) mem).memory.words b) ≡ 4
+    by_step (stopped e is) rest = subst (λ d. (b : ℕ) → length (d.memory.words b) ≡ 4) (sym is) all
+    by_step (went n words is) rest =
+        subst (λ d. (b : ℕ) → length (d.memory.words b) ≡ 4) (sym is)
+        (rest n (subst (λ w. (b : ℕ) → length (w b) ≡ 4) (sym words) (back_four line mem.words (each zero) all)))
+
 module _ (m : Measures) (blocks : ℕ) (lines : List Line) (mem : Mem) where
   pub drained_homed : Homed m (at_in lines) → Homed m (at_in (drain_from blocks lines mem).lines)
   drained_homed h = homed_fewer m (at_in lines) (at_in (drain_from blocks lines mem).lines) (drained_fewer blocks lines mem) h
@@ -233,6 +258,14 @@ module _ (m : Measures) (lines : List Line) (mem : Mem) where
 
   pub rule_length : length (drain_rule m lines mem).lines ≡ length lines
   rule_length = by_way (λ ls me. length ls ≡ length lines) (drained_length 0 lines mem) refl
+
+  pub rule_four : (truth : ℕ → List ℕ) → Coherent (at_in lines) mem.words truth → ((b : ℕ) → length (truth b) ≡ 4)
+      → ((b : ℕ) → length (mem.words b) ≡ 4) → (b : ℕ) → length ((drain_rule m lines mem).memory.words b) ≡ 4
+  unfolding FourEach
+  rule_four truth c four all =
+      by_way (λ ls me. (b : ℕ) → length (me.words b) ≡ 4)
+      (drained_four 0 lines mem
+      (λ i v. ap length (c.agree (at_in lines i).block i (own_copy (at_in lines i) (at_in lines i).block v refl)) ∙ four (at_in lines i).block) all) all
 
   pub rule_memory : (truth : ℕ → List ℕ) → Coherent (at_in lines) mem.words truth → (d : Drained) → (drain_rule m lines mem).answer ≡ Ok d
       → (block : ℕ) → (drain_rule m lines mem).memory.words block ≡ truth block

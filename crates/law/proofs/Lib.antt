@@ -20,6 +20,7 @@ pub mod Doing
 pub mod Hits
 pub mod Misses
 pub mod Commands
+pub mod Lawful
 pub mod LockLaw
 pub mod LocksKept
 pub mod Marked

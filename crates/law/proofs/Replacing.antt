@@ -42,14 +42,14 @@ module _ (m : Measures) (old new : ℕ → Line) (few : Fewer old new) where
   pub holder_fewer : (l : Ledger) → HolderAlone m old l → HolderAlone m new l
   holder_fewer l h p a i held c = h p a i held (copy_fewer old new few (block_of a) i c)
 
-modified_valid : (s : State) → modified s ≡ true → valid s ≡ true
+pub modified_valid : (s : State) → modified s ≡ true → valid s ≡ true
 modified_valid I h = absurd (cc)
 modified_valid S h = refl
 modified_valid SM h = refl
 modified_valid EC h = refl
 modified_valid EM h = refl
 
-own_copy : (line : Line) (block : ℕ) → valid line.state ≡ true → block ≡ line.block → holds_block block line ≡ true
+pub own_copy : (line : Line) (block : ℕ) → valid line.state ≡ true → block ≡ line.block → holds_block block line ≡ true
 own_copy line block v e = rw v (grind (arith, nat_tests))
 
 both_of : (a b : Bool) → (a && b) ≡ true → (a ≡ true) × (b ≡ true)

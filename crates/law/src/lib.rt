@@ -2,4 +2,5 @@
 #![tactic(auto)]
 
 pub mod accounts;
+pub mod law;
 pub mod refusals;
