@@ -1,8 +1,7 @@
 -- What every command leaves: coherent lines, the ledger's words, the holder's copies.
-use Rattle.std.proofs.Common.{◌≡◌, ℕ, ◌/◌, ◌%◌, ◌<◌, Bool, true, false, cond, not, ◌&&◌, eqb, List, length, get_or, set, is_some, IfSome, Some, None, Ok, Option, sym, refl, ap, ◌∙◌, ◌⊎◌, subst, inl, inr, length-set}
+use Rattle.std.proofs.Common.{◌≡◌, ℕ, ◌%◌, ◌<◌, Bool, true, false, cond, not, ◌&&◌, eqb, List, length, get_or, is_some, IfSome, Some, None, Ok, Option, sym, refl, ap, ◌∙◌, subst, inl, inr, length-set}
 use Rattle.std.proofs.lemmas.Bool.{false≢true, cond_both, and_parts}
 use Rattle.std.proofs.lemmas.Bool.Decides.{eqb_tells}
-use Rattle.protocol.specs.declared.answer.Answer.TheVariants.{Done as done_answer, Wait}
 use Rattle.protocol.specs.declared.command.Action.{Action}
 use Rattle.protocol.specs.declared.command.BusCommand.{BusCommand}
 use Rattle.protocol.specs.declared.command.Command.{Command}
@@ -30,17 +29,17 @@ use Rattle.cluster.specs.Ways.{taken_way}
 use Rattle.law.specs.Law.{OnDone, owner, reads}
 use Rattle.law.specs.Ledger.{Ledger, block_of, command_fed, done_by}
 use Rattle.law.proofs.Cells.{acts_reads, acts_unlock, unlock_quiet}
-use Rattle.law.proofs.Doing.{Done, done, taken_with}
+use Rattle.law.proofs.Doing.{Done, taken_with}
 use Rattle.law.proofs.Hits as hits
 use Rattle.law.proofs.Holds.{done_holds}
-use Rattle.law.proofs.Invariant.{at_in, copy, Coherent, Homed, Tied, HolderAlone}
+use Rattle.law.proofs.Invariant.{at_in, copy, Coherent, Homed, HolderAlone}
 use Rattle.law.proofs.Leaving.{Truth, by_kind}
 use Rattle.law.proofs.Misses as misses
 use Rattle.law.proofs.Moving.{Moved, before, same_after, homed_after, modified_valid, copy_from}
 use Rattle.law.proofs.Owning.{Only}
 use Rattle.law.proofs.Placing.{length_seen}
-use Rattle.law.proofs.Replacing.{without, homed_replaced, holder_replaced, swapped, given_back}
-use Rattle.law.proofs.Shapes.{Shape, refused, waited, finished, Finished, found, action_of}
+use Rattle.law.proofs.Replacing.{homed_replaced, holder_replaced, swapped, given_back}
+use Rattle.law.proofs.Shapes.{found, action_of}
 use Rattle.law.proofs.Words.{answered_is, done_words, fresh, tied_same}
 
 -- what is kept of lines and words, beside locks and waits

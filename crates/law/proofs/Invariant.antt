@@ -1,15 +1,14 @@
 -- What is kept from call to call: of the lines by their places, of locks, of words.
-use Rattle.std.proofs.Common.{◌≡◌, ℕ, ◌+◌, ◌%◌, ◌<◌, ◌≤◌, Bool, true, false, List, length, get_or, Some, None, Option}
+use Rattle.std.proofs.Common.{◌≡◌, ℕ, ◌+◌, ◌%◌, ◌<◌, ◌≤◌, true, false, List, length, get_or, Some}
 use Rattle.protocol.specs.declared.line.Line.{Line}
 use Rattle.protocol.specs.declared.lock.LockEntry.{LockEntry}
 use Rattle.protocol.specs.declared.measures.Measures.{Measures}
 use Rattle.protocol.specs.Entries.{valid, modified}
 use Rattle.protocol.specs.Lines.{no_line}
-use Rattle.protocol.specs.Places.{line_count, window_start}
+use Rattle.protocol.specs.Places.{window_start}
 use Rattle.cluster.specs.Copies.{holds_block}
 use Rattle.cluster.specs.Locks.{somebody_waits}
 use Rattle.cluster.specs.Making.{blank_entry}
-use Rattle.law.specs.Calls.{Board}
 use Rattle.law.specs.Law.{exclusive, owner}
 use Rattle.law.specs.Ledger.{Ledger, block_of}
 

@@ -1,28 +1,24 @@
 -- The law holds throughout every list of calls.
-use Rattle.std.proofs.Common.{◌≡◌, ℕ, zero, suc, ◌/◌, ◌%◌, ◌<◌, ◌≤◌, Bool, true, false, cond, ◌&&◌, eqb, ltb, List, [], ◌∷◌, length, get_or, replicate, IfSome, Some, None, Ok, Err, Option, Result, sym, refl, ap, ◌∙◌, subst, inl, inr, arith}
+use Rattle.std.proofs.Common.{◌≡◌, ℕ, zero, suc, ◌/◌, ◌%◌, ◌<◌, ◌≤◌, Bool, true, false, cond, List, [], ◌∷◌, get_or, replicate, IfSome, Some, None, Option, sym, refl, ◌∙◌, subst}
 use lib.ListN.{length-replicate}
 use Rattle.std.proofs.lemmas.Bool.{false≢true}
-use Rattle.std.proofs.lemmas.Bool.Decides.{eqb_tells, nat_tests}
 use Rattle.protocol.specs.declared.command.Request.{Request}
-use Rattle.protocol.specs.declared.geometry.Geometry.{Geometry}
-use Rattle.protocol.specs.declared.line.Line.{Line}
 use Rattle.protocol.specs.declared.measures.Measures.{Measures}
-use Rattle.protocol.specs.Entries.{valid, modified}
-use Rattle.protocol.specs.Lines.{no_line, blank_line}
+use Rattle.protocol.specs.Entries.{valid}
+use Rattle.protocol.specs.Lines.{blank_line}
 use Rattle.protocol.specs.Places.{line_count}
 use Rattle.memory.specs.Meaning.{Mem, Lawful}
-use Rattle.cluster.specs.Copies.{holds_block, line_of, line_at}
+use Rattle.cluster.specs.Copies.{line_of, line_at}
 use Rattle.cluster.specs.Rule.{Outcome, waiting}
 use Rattle.upkeep.proofs.Counts.{has_columns}
-use Rattle.law.specs.Accounts.{Accounts, Throughout, new_board}
+use Rattle.law.specs.Accounts.{Throughout, new_board}
 use Rattle.law.specs.Calls.{Call, command, drain, census, question, Board, command_on, said_by, left_by}
 use Rattle.law.specs.Law.{Law, LawHolds, OnDone, owner, reads}
 use Rattle.law.specs.Ledger.{Ledger, opened, fed, command_fed, word_at, block_of}
 use Rattle.law.proofs.Commands.{Settled, settled_done, reads_done}
 use Rattle.law.proofs.Doing.{done}
 use Rattle.law.proofs.Drained.{rule_length, rule_homed, rule_coherent, rule_holder, rule_four, drains_law}
-use Rattle.law.proofs.Invariant.{at_in, copy, Coherent, Homed, Tied, HolderAlone}
-use Rattle.law.proofs.Leaving.{Truth}
+use Rattle.law.proofs.Invariant.{at_in, copy}
 use Rattle.law.proofs.LocksKept.{no_other_holder}
 use Rattle.law.proofs.LocksOn.{OwnFound, LocksHold, locks_on, waits_on_locks, new_locks_hold}
 use Rattle.law.proofs.Marked.{wakes_law}

@@ -1,5 +1,5 @@
 -- What a done command leaves coherent: it stays as it was, its own copy is the only one, or it shares the block.
-use Rattle.std.proofs.Common.{◌≡◌, ℕ, Bool, true, false, cond, eqb, List, Some, None, Option, sym, refl, ap, ◌∙◌, subst, inl, inr}
+use Rattle.std.proofs.Common.{◌≡◌, ℕ, Bool, true, false, cond, List, Some, None, Option, sym, refl, ap, ◌∙◌, subst, inl, inr}
 use Rattle.std.proofs.lemmas.Bool.{false≢true}
 use Rattle.std.proofs.lemmas.Bool.Decides.{eqb_tells}
 use Rattle.protocol.specs.declared.command.BusCommand.{BusCommand}
@@ -10,9 +10,9 @@ use Rattle.protocol.specs.declared.state.State.TheVariants.{S}
 use Rattle.protocol.specs.Entries.{valid, modified}
 use Rattle.protocol.specs.StateTable.{snooped}
 use Rattle.cluster.specs.Copies.{holds_block}
-use Rattle.law.specs.Law.{exclusive, owner}
+use Rattle.law.specs.Law.{exclusive}
 use Rattle.law.proofs.Invariant.{copy, Coherent}
-use Rattle.law.proofs.Moving.{Moved, Other, heard_it, stayed, other, before, coherent_after, truth_after, clears, cleared, heard, heard_f, copy_valid, copy_block, copy_from, f_valid, f_modified, f_shares}
+use Rattle.law.proofs.Moving.{Moved, Other, heard_it, stayed, other, coherent_after, truth_after, clears, cleared, heard, heard_f, copy_valid, copy_block, copy_from, f_valid, f_modified, f_shares}
 
 module _ (m : Measures) (at after : ℕ → Line) (block k asking : ℕ) (bus : Option BusCommand) (own : Line) (moved : Moved m at after block k asking bus own) where
   -- a copy of the block that stands elsewhere has heard the bus command

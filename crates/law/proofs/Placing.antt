@@ -1,7 +1,7 @@
 -- The table of lines before and after a done command, place by place.
-use Rattle.std.proofs.Common.{◌≡◌, ℕ, ◌/◌, ◌<◌, Bool, true, false, cond, not, ◌&&◌, eqb, List, length, set, Some, None, Option, sym, refl, ap, ◌∙◌, subst, inl, inr, arith, length-set}
+use Rattle.std.proofs.Common.{◌≡◌, ℕ, ◌<◌, Bool, true, false, cond, not, ◌&&◌, eqb, List, length, set, Some, None, Option, sym, refl, ap, ◌∙◌, subst, inl, inr}
 use Rattle.std.proofs.lemmas.Bool.{false≢true}
-use Rattle.std.proofs.lemmas.Bool.Decides.{eqb_tells, nat_tests}
+use Rattle.std.proofs.lemmas.Bool.Decides.{eqb_tells}
 use Rattle.std.proofs.lemmas.List.{get_or-set_same, get_or-set_other}
 use Rattle.protocol.specs.declared.command.BusCommand.{BusCommand}
 use Rattle.protocol.specs.declared.line.Line.{Line}
@@ -12,9 +12,9 @@ use Rattle.protocol.specs.Places.{line_count}
 use Rattle.cluster.specs.Copies.{holds_block, line_of}
 use Rattle.cluster.specs.Finishing.{bus_seen}
 use Rattle.law.specs.Law.{owner}
-use Rattle.law.proofs.Invariant.{at_in, copy, Home, Homed}
+use Rattle.law.proofs.Invariant.{at_in, copy, Homed}
 use Rattle.law.proofs.Moving.{Moved, heard, copy_block}
-use Rattle.law.proofs.Places.{FoundAt, found_at, found_none, copy_home, window_inside_table}
+use Rattle.law.proofs.Places.{found_at, found_none, window_inside_table}
 use Rattle.law.proofs.Replacing.{without, without_fewer, copy_fewer}
 use Rattle.law.proofs.Snooped.{snooped_at_places, length_others_snooped}
 use Rattle.law.proofs.Taking.{WayHome}

@@ -1,5 +1,5 @@
 -- A refused call changes nothing.
-use Rattle.std.proofs.Common.{◌≡◌, ℕ, ◌+◌, Bool, true, false, cond, List, [], ◌∷◌, Ok, Err, Result, sym, refl, ap, ◌∙◌, arith}
+use Rattle.std.proofs.Common.{◌≡◌, ℕ, ◌+◌, Bool, true, false, cond, List, [], ◌∷◌, Ok, Err, Result, sym, refl, ap, ◌∙◌}
 use Rattle.protocol.specs.declared.command.Request.{Request}
 use Rattle.protocol.specs.declared.line.Line.{Line}
 use Rattle.protocol.specs.declared.measures.Measures.{Measures}
@@ -11,7 +11,7 @@ use Rattle.protocol.specs.Lines.{blank_line}
 use Rattle.memory.specs.Meaning.{Mem, grants}
 use Rattle.cluster.specs.Rule.{Outcome}
 use Rattle.upkeep.specs.Counting.{lines_fit}
-use Rattle.upkeep.specs.Draining.{DrainOutcome, behind, written_back, memory_back, unless_stopped, drain_from, costed, drain_rule}
+use Rattle.upkeep.specs.Draining.{behind, written_back, memory_back, unless_stopped, drain_from, costed, drain_rule}
 use Rattle.law.specs.Calls.{command, drain, census, question, answered, Board, command_on, said_by, left_by}
 use Rattle.law.specs.Refusals.{refused_at_once, refused, RefusalsChangeNothing}
 use Rattle.std.proofs.lemmas.Bool.{false≢true}
