@@ -36,7 +36,7 @@ length-map f at [] = refl
 length-map f at (x ∷ xs) = ap suc (length-map f (at + 1) xs)
 
 -- the tables keep their lengths
-pub length_settled : (c : Command) (a : ℕ) (locks : List LockEntry) (entry : Option ℕ) → length (locks_settled c a locks entry) ≡ length locks
+length_settled : (c : Command) (a : ℕ) (locks : List LockEntry) (entry : Option ℕ) → length (locks_settled c a locks entry) ≡ length locks
 length_settled c a locks None = refl
 length_settled c a locks (Some place) = length-set locks place _
 
