@@ -8,7 +8,7 @@ use Rattle.memory.specs.Meaning.{Mem}
 use Rattle.cluster.specs.Making.{all_resting, blank_entry}
 use Rattle.cluster.specs.Waiting.{awaited_in}
 use Rattle.upkeep.specs.Holding.{holds}
-use Rattle.law.specs.Calls.{Call, Board, said_by, left_by}
+use Rattle.law.specs.Calls.{Call, Board, Said, said_by, left_by}
 use Rattle.law.specs.Ledger.{Ledger, opened, fed}
 
 -- each processor holds the addresses, and waits for the block, that the answers told
@@ -20,6 +20,21 @@ pub record Accounts (m : Measures) (b : Board) (l : Ledger) : Type 0 where
 abbrev pub Throughout : (Board → Ledger → Type 0) → Measures → Board → Ledger → List Call → Type 0
 Throughout P m b l [] = P b l
 Throughout P m b l (call ∷ calls) = P b l × Throughout P m (left_by m b call) (fed call (said_by m b call) l) calls
+
+-- what calls leave, each starting from what the one before left
+abbrev pub left_along : Measures → Board → List Call → Board
+left_along m b [] = b
+left_along m b (call ∷ calls) = left_along m (left_by m b call) calls
+
+-- what they are answered
+abbrev pub said_along : Measures → Board → List Call → List Said
+said_along m b [] = []
+said_along m b (call ∷ calls) = said_by m b call ∷ said_along m (left_by m b call) calls
+
+-- the ledger fed all of them and their answers
+abbrev pub ledger_along : Measures → Board → Ledger → List Call → Ledger
+ledger_along m b l [] = l
+ledger_along m b l (call ∷ calls) = ledger_along m (left_by m b call) (fed call (said_by m b call) l) calls
 
 -- a newly made cluster with its tables
 abbrev pub new_board : Measures → Mem → Board

@@ -5,3 +5,5 @@ pub mod ToCome
 pub mod Falls
 pub mod Ends
 pub mod Runs
+pub mod Commands
+pub mod Laws

@@ -2,6 +2,7 @@ use Rattle.std.proofs.Common.{◌≡◌, Ok, sym, ap, ◌∙◌}
 use Rattle.trace.specs.Traces.{records_of, content_of}
 use Rattle.run.specs.Kept.{records_for, state_of}
 use Rattle.run.specs.Running.{due, started, ran, end_of, summary_of}
+use Rattle.run.proofs.Commands.{as_commands}
 use Rattle.run.proofs.Ends.{start_few}
 use Rattle.run.proofs.Turns.{few_records, summed}
 use Rattle.run.proofs.Runs.{read_and_run, ended}
@@ -50,6 +51,7 @@ returns g c =
       locks = ap (λ x. x.locks) end ∙ ap (λ x. x.locks) rule;
       memory = ap (λ x. x.memory) end ∙ ap (λ x. x.memory) rule;
       ended = ended m ps lines locks mem bytes content value (sym (λ k. due m (alike k) (end k)) ∙ done.ended);
+      commands = as_commands m ps lines locks mem bytes content s' value end;
       geometry = done.geometry;
       kept = done.kept;
     }

@@ -1,0 +1,30 @@
+-- A run is a list of commands, issued one after another.
+use Rattle.std.specs.Prelude.{◌≡◌, List, [], map, Ok, Err, Result}
+use Rattle.protocol.specs.declared.line.Line.{Line}
+use Rattle.protocol.specs.declared.lock.LockEntry.{LockEntry}
+use Rattle.protocol.specs.declared.measures.Measures.{Measures}
+use Rattle.protocol.specs.declared.refusal.Refusal.{Refusal}
+use Rattle.memory.specs.Meaning.{Mem}
+use Rattle.cluster.specs.declared.cluster.Processor.{Processor}
+use Rattle.law.specs.Accounts.{left_along, said_along}
+use Rattle.law.specs.Calls.{Call, command, answered, Board}
+use Rattle.trace.specs.Traces.{Content}
+use Rattle.text.specs.declared.step.Step.{Step}
+use Rattle.run.specs.Running.{started, steps_of}
+
+abbrev pub board_of : List Processor → List Line → List LockEntry → Mem → Board
+board_of ps lines locks mem = record { processors = ps; lines = lines; locks = locks; memory = mem }
+
+-- the steps of a trace's run from what a cluster, its tables and memory have; none if the trace is refused
+abbrev pub steps_on : Measures → Board → Result Content Refusal → List Step
+steps_on m b (Ok trace) = steps_of m trace.records (started trace.records b.processors b.lines b.locks b.memory)
+steps_on m b (Err refusal) = []
+
+-- the command that each step issues
+abbrev pub issued : List Step → List Call
+issued steps = map (λ step. command step.request) steps
+
+-- the steps leave what their commands leave, and show what these are answered
+pub record AsCommands (m : Measures) (before after : Board) (steps : List Step) : Type 0 where
+  pub left : after ≡ left_along m before (issued steps)
+  pub answers : map (λ step. answered step.answer) steps ≡ said_along m before (issued steps)
