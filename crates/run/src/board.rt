@@ -1,6 +1,7 @@
 // A new cluster and tables of its own.
 ghost use Rattle.std.specs.Prelude.{IfOk};
 ghost use Rattle.run.specs.Board.{IsNew};
+ghost use Rattle.run.specs.Laws.{LawFrom};
 
 use cluster::cluster::Cluster;
 use protocol::geometry::Geometry;
@@ -17,7 +18,8 @@ pub struct Board {
 
 impl Board {
     pub fn new(heap: Global, geometry: Geometry) -> Result<Board, AllocError>
-        ensures { IfOk result (λ b. IsNew geometry b.cluster b.lines.items b.locks.items) }
+        ensures new { IfOk result (λ b. IsNew geometry b.cluster b.lines.items b.locks.items) }
+        ensures law { IfOk result (λ b. LawFrom geometry b.cluster.processors b.lines.items b.locks.items) }
     {
         Ok(Board {
             cluster: Cluster::at_rest(geometry),

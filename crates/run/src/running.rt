@@ -1,8 +1,9 @@
 // A run of a trace from its first step to its last.
 ghost use Rattle.std.specs.Prelude.{◌≡◌, ◌+◌, ◌≤◌, None, OnOk};
 ghost use Rattle.trace.specs.Traces.{trace_of};
-ghost use Rattle.run.specs.Commands.{AsCommands, board_of, steps_on};
+ghost use Rattle.run.specs.Commands.{AsCommands, board_of, issued, steps_on};
 ghost use Rattle.run.specs.Kept.{records_for, state_of};
+ghost use Rattle.run.specs.Laws.{LawAlong};
 ghost use Rattle.run.specs.Running.{due, to_go, ran, run_rule, Ended};
 
 use crate::run::Run;
@@ -51,6 +52,7 @@ pub fn run_trace<M: Memory>(
     ensures memory { M.Memory.model memory.new ≡ (run_rule cluster.old.geometry.measures cluster.old.processors lines.old locks.old (M.Memory.model memory.old) bytes.now).memory }
     ensures ended { OnOk result (Ended cluster.old.geometry.measures cluster.old.processors lines.old locks.old (M.Memory.model memory.old) (trace_of bytes.now)) }
     ensures commands { let before = board_of cluster.old.processors lines.old locks.old (M.Memory.model memory.old) in OnOk result (AsCommands cluster.old.geometry.measures before (board_of cluster.new.processors lines.new locks.new (M.Memory.model memory.new)) (steps_on cluster.old.geometry.measures before (trace_of bytes.now))) }
+    ensures law { let before = board_of cluster.old.processors lines.old locks.old (M.Memory.model memory.old) in OnOk result (LawAlong cluster.old.geometry before (issued (steps_on cluster.old.geometry.measures before (trace_of bytes.now)))) }
     ensures geometry { cluster.new.geometry ≡ cluster.old.geometry }
     ensures kept { M.Memory.standing memory.new ≡ M.Memory.standing memory.old }
 {
