@@ -4,14 +4,14 @@ use Rattle.protocol.specs.declared.answer.Answer.{Answer}
 use Rattle.protocol.specs.declared.answer.Answer.TheVariants.{Done, Wait}
 use Rattle.protocol.specs.declared.answer.Completion.{Completion}
 use Rattle.protocol.specs.declared.command.Command.{Command}
-use Rattle.protocol.specs.declared.command.Command.TheVariants.{R, W, DW, RI, RP, RB, LR, UW, U}
+use Rattle.protocol.specs.declared.command.Command.TheVariants.{R, RI, RP, RB, LR}
 use Rattle.protocol.specs.declared.command.Request.{Request}
 use Rattle.protocol.specs.declared.geometry.Geometry.{Geometry}
 use Rattle.protocol.specs.declared.line.Line.{Line}
 use Rattle.protocol.specs.declared.measures.Measures.{Measures}
 use Rattle.protocol.specs.declared.refusal.Refusal.{Refusal}
 use Rattle.protocol.specs.declared.state.State.{State}
-use Rattle.protocol.specs.declared.state.State.TheVariants.{I, S, SM, EC, EM}
+use Rattle.protocol.specs.declared.state.State.TheVariants.{EC, EM}
 use Rattle.protocol.specs.Entries.{modified}
 use Rattle.protocol.specs.Finding.{lowest_from}
 use Rattle.protocol.specs.Lines.{no_line}
@@ -27,26 +27,20 @@ use Rattle.law.specs.Ledger.{Ledger, block_of, word_at, opened, waits_in, comman
 
 abbrev pub reads : Command → Bool
 reads R = true
-reads (W word) = false
-reads (DW word) = false
 reads RI = true
 reads RP = true
 reads RB = true
 reads LR = true
-reads (UW word) = false
-reads U = false
+reads c = false
 
 abbrev pub exclusive : State → Bool
-exclusive I = false
-exclusive S = false
-exclusive SM = false
-exclusive EC = true
 exclusive EM = true
+exclusive EC = true
+exclusive s = false
 
 abbrev pub OnDone : Result Answer Refusal → (Completion → Type 0) → Type 0
 OnDone (Ok (Done done)) P = P done
-OnDone (Ok (Wait hit)) P = Unit {0}
-OnDone (Err refusal) P = Unit {0}
+OnDone answer P = Unit {0}
 
 -- WAIT exactly where `locked` says so, unless it is refused
 abbrev pub WaitsIf : Bool → Result Answer Refusal → Type 0
@@ -107,5 +101,4 @@ pub record Law (m : Measures) (b : Board) (l : Ledger) : Type 0 where
 -- start and after each call
 abbrev pub LawHolds : Type 0
 LawHolds =
-    (g : Geometry) (mem : Mem) → Lawful mem → (calls : List Call)
-    → Throughout (Law g.measures) g.measures (new_board g.measures mem) (opened mem) calls
+    (g : Geometry) (mem : Mem) → Lawful mem → (calls : List Call) → Throughout (Law g.measures) g.measures (new_board g.measures mem) (opened mem) calls

@@ -3,11 +3,11 @@ use Rattle.std.specs.Prelude.{ℕ, ◌*◌, ◌/◌, ◌%◌, Bool, true, false,
 use Rattle.protocol.specs.declared.answer.Answer.{Answer}
 use Rattle.protocol.specs.declared.answer.Answer.TheVariants.{Done, Wait}
 use Rattle.protocol.specs.declared.command.Command.{Command}
-use Rattle.protocol.specs.declared.command.Command.TheVariants.{R, W, DW, RI, RP, RB, LR, UW, U}
+use Rattle.protocol.specs.declared.command.Command.TheVariants.{W, DW, RP, RB, LR, UW, U}
 use Rattle.protocol.specs.declared.command.Request.{Request}
 use Rattle.protocol.specs.declared.refusal.Refusal.{Refusal}
 use Rattle.memory.specs.Meaning.{Mem}
-use Rattle.law.specs.Calls.{Call, command, drain, census, question, Said, answered, drained, counted, told}
+use Rattle.law.specs.Calls.{Call, command, Said, answered}
 
 -- the word at each address, the addresses that each processor holds locks at, the block that it waits for
 pub record Ledger : Type 0 where
@@ -31,38 +31,27 @@ opened mem =
     }
 
 abbrev pub entered : ℕ → ℕ → Ledger → Ledger
-entered address word l =
-    record { words = λ a. cond (a == address) (Some word) (l.words a); holds = l.holds; waits = l.waits }
+entered address word l = record l { words = λ a. cond (a == address) (Some word) (l.words a) }
 
 -- a DW at a start enters its word and 0 for the other three addresses
 abbrev block_entered : ℕ → ℕ → Ledger → Ledger
-block_entered address word l =
-    record {
-      words = λ a. cond (block_of a == block_of address) (Some (cond (a == address) word 0)) (l.words a);
-      holds = l.holds;
-      waits = l.waits;
-    }
+block_entered address word l = record l { words = λ a. cond (block_of a == block_of address) (Some (cond (a == address) word 0)) (l.words a) }
 
 abbrev purged : ℕ → Ledger → Ledger
-purged block l = record { words = λ a. cond (block_of a == block) None (l.words a); holds = l.holds; waits = l.waits }
+purged block l = record l { words = λ a. cond (block_of a == block) None (l.words a) }
 
 abbrev holding : ℕ → ℕ → Bool → Ledger → Ledger
-holding processor address held l =
-    record {
-      words = l.words;
-      holds = λ p a. cond (p == processor && a == address) held (l.holds p a);
-      waits = l.waits;
-    }
+holding processor address held l = record l { holds = λ p a. cond (p == processor && a == address) held (l.holds p a) }
 
 abbrev pub waits_in : ℕ → Option ℕ → Bool
 waits_in block None = false
 waits_in block (Some b) = b == block
 
 abbrev awake : ℕ → Ledger → Ledger
-awake block l = record { words = l.words; holds = l.holds; waits = λ p. cond (waits_in block (l.waits p)) None (l.waits p) }
+awake block l = record l { waits = λ p. cond (waits_in block (l.waits p)) None (l.waits p) }
 
 abbrev waiting : ℕ → ℕ → Ledger → Ledger
-waiting processor block l = record { words = l.words; holds = l.holds; waits = λ p. cond (p == processor) (Some block) (l.waits p) }
+waiting processor block l = record l { waits = λ p. cond (p == processor) (Some block) (l.waits p) }
 
 abbrev pub released : ℕ → ℕ → Bool → Ledger → Ledger
 released processor address ul l =
@@ -70,15 +59,14 @@ released processor address ul l =
 
 -- a done command
 abbrev pub done_by : ℕ → ℕ → Bool → Command → Ledger → Ledger
-done_by processor address ul R l = l
 done_by processor address ul (W word) l = entered address word l
 done_by processor address ul (DW word) l = cond (address % 4 == 0) (block_entered address word l) (entered address word l)
-done_by processor address ul RI l = l
 done_by processor address ul RP l = purged (block_of address) l
 done_by processor address ul RB l = cond (address % 4 == 3) (purged (block_of address) l) l
 done_by processor address ul LR l = holding processor address true l
 done_by processor address ul (UW word) l = released processor address ul (entered address word l)
 done_by processor address ul U l = released processor address ul l
+done_by processor address ul c l = l
 
 abbrev pub command_fed : Request → Result Answer Refusal → Ledger → Ledger
 command_fed q (Ok (Done done)) l = done_by q.processor q.address done.ul q.command l
@@ -88,9 +76,4 @@ command_fed q (Err refusal) l = l
 -- all else changes nothing
 abbrev pub fed : Call → Said → Ledger → Ledger
 fed (command q) (answered r) l = command_fed q r l
-fed (command q) (drained r) l = l
-fed (command q) (counted r) l = l
-fed (command q) (told r) l = l
-fed drain said l = l
-fed census said l = l
-fed (question address) said l = l
+fed call said l = l
