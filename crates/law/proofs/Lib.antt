@@ -25,3 +25,4 @@ pub mod LockLaw
 pub mod LocksKept
 pub mod Marked
 pub mod LocksOn
+pub mod Along

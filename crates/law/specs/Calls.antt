@@ -34,6 +34,9 @@ pub record Board : Type 0 where
   pub locks : List LockEntry
   pub memory : Mem
 
+abbrev pub board_of : List Processor → List Line → List LockEntry → Mem → Board
+board_of ps lines locks mem = record { processors = ps; lines = lines; locks = locks; memory = mem }
+
 module _ (m : Measures) where
   abbrev pub command_on : Board → Request → Outcome
   command_on b q = command_rule m b.processors b.lines b.locks b.memory q

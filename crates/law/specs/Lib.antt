@@ -3,3 +3,4 @@ pub mod Refusals
 pub mod Ledger
 pub mod Accounts
 pub mod Law
+pub mod Along

@@ -5,10 +5,10 @@ use Rattle.protocol.specs.declared.lock.LockEntry.{LockEntry}
 use Rattle.protocol.specs.declared.measures.Measures.{Measures}
 use Rattle.memory.specs.Meaning.{Mem}
 use Rattle.cluster.specs.declared.cluster.Processor.{Processor}
-use Rattle.law.specs.Calls.{Board, answered}
+use Rattle.law.specs.Calls.{Board, board_of, answered}
 use Rattle.trace.specs.declared.record.Record.{Record}
 use Rattle.trace.specs.Traces.{Content, trace_of, when_some}
-use Rattle.run.specs.Commands.{board_of, steps_on, AsCommands}
+use Rattle.run.specs.Commands.{steps_on, AsCommands}
 use Rattle.run.specs.Running.{Running, due, stepped, shown, to_go, run_from, steps_from, started, end_of}
 
 abbrev board_in : Running → Board

@@ -12,9 +12,6 @@ use Rattle.trace.specs.Traces.{Content}
 use Rattle.text.specs.declared.step.Step.{Step}
 use Rattle.run.specs.Running.{started, steps_of}
 
-abbrev pub board_of : List Processor → List Line → List LockEntry → Mem → Board
-board_of ps lines locks mem = record { processors = ps; lines = lines; locks = locks; memory = mem }
-
 -- the steps of a trace's run from what a cluster, its tables and memory have; none if the trace is refused
 abbrev pub steps_on : Measures → Board → Result Content Refusal → List Step
 steps_on m b (Ok trace) = steps_of m trace.records (started trace.records b.processors b.lines b.locks b.memory)

@@ -5,5 +5,4 @@ pub mod Settled
 pub mod Progress
 pub mod Kept
 pub mod Running
-pub mod Laws
 pub mod Listing

@@ -1,7 +1,7 @@
 // A new cluster and tables of its own.
 ghost use Rattle.std.specs.Prelude.{IfOk};
 ghost use Rattle.run.specs.Board.{IsNew};
-ghost use Rattle.run.specs.Laws.{LawFrom};
+ghost use Rattle.law.specs.Along.{LawFrom};
 
 use cluster::cluster::Cluster;
 use protocol::geometry::Geometry;

@@ -1,9 +1,10 @@
 // A run of a trace from its first step to its last.
 ghost use Rattle.std.specs.Prelude.{◌≡◌, ◌+◌, ◌≤◌, None, OnOk};
 ghost use Rattle.trace.specs.Traces.{trace_of};
-ghost use Rattle.run.specs.Commands.{AsCommands, board_of, issued, steps_on};
+ghost use Rattle.law.specs.Along.{LawAlong};
+ghost use Rattle.law.specs.Calls.{board_of};
+ghost use Rattle.run.specs.Commands.{AsCommands, issued, steps_on};
 ghost use Rattle.run.specs.Kept.{records_for, state_of};
-ghost use Rattle.run.specs.Laws.{LawAlong};
 ghost use Rattle.run.specs.Running.{due, to_go, ran, run_rule, Ended};
 
 use crate::run::Run;

@@ -1,12 +1,12 @@
 use Rattle.std.proofs.Common.{◌≡◌, Ok, sym, ap, ◌∙◌}
-use Rattle.law.proofs.Lawful.{law_holds}
 use Rattle.trace.specs.Traces.{records_of, content_of, trace_of}
-use Rattle.run.specs.Commands.{board_of, issued, steps_on}
+use Rattle.law.specs.Calls.{board_of}
+use Rattle.run.specs.Commands.{issued, steps_on}
 use Rattle.run.specs.Kept.{records_for, state_of}
 use Rattle.run.specs.Running.{due, started, ran, end_of, summary_of}
 use Rattle.run.proofs.Commands.{as_commands}
 use Rattle.run.proofs.Ends.{start_few}
-use Rattle.run.proofs.Laws.{law_along}
+use Rattle.law.proofs.Along.{law_along}
 use Rattle.run.proofs.Turns.{few_records, summed}
 use Rattle.run.proofs.Runs.{read_and_run, ended}
 use Rattle.run.proofs.running.run_trace.Goals as goal
@@ -55,7 +55,7 @@ returns g c =
       memory = ap (λ x. x.memory) end ∙ ap (λ x. x.memory) rule;
       ended = ended m ps lines locks mem bytes content value (sym (λ k. due m (alike k) (end k)) ∙ done.ended);
       commands = as_commands m ps lines locks mem bytes content s' value end;
-      law = law_along law_holds cluster.geometry (board_of ps lines locks mem) (issued (steps_on m (board_of ps lines locks mem) (trace_of bytes)));
+      law = law_along cluster.geometry (board_of ps lines locks mem) (issued (steps_on m (board_of ps lines locks mem) (trace_of bytes)));
       geometry = done.geometry;
       kept = done.kept;
     }

@@ -1,12 +1,11 @@
 use Rattle.std.proofs.Common.{rules}
 use Rattle.run.specs.Board.{IsNew}
 use Rattle.run.proofs.Laws.{law_from}
-use Rattle.law.proofs.Lawful.{law_holds}
 use Rattle.run.proofs.board.Board.new.Goals as goal
 
 pub returns-clause-law : goal.returns-clause-law
 returns-clause-law c =
-    law_from law_holds c.args.geometry c.at_rest.result c.in_ok-vec.field-0.items c.in_ok-vec-2.field-0.items
+    law_from c.args.geometry c.at_rest.result c.in_ok-vec.field-0.items c.in_ok-vec-2.field-0.items
     (record {
       geometry = c.at_rest.ensures.geometry;
       processors = c.at_rest.ensures.processors;

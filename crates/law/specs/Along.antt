@@ -1,4 +1,4 @@
--- The law over calls, from a new cluster and along a run.
+-- The law from a new cluster, and along calls that follow others.
 use Rattle.std.specs.Prelude.{◌≡◌, List}
 use Rattle.protocol.specs.declared.geometry.Geometry.{Geometry}
 use Rattle.protocol.specs.declared.line.Line.{Line}
@@ -6,10 +6,9 @@ use Rattle.protocol.specs.declared.lock.LockEntry.{LockEntry}
 use Rattle.memory.specs.Meaning.{Mem, Lawful}
 use Rattle.cluster.specs.declared.cluster.Processor.{Processor}
 use Rattle.law.specs.Accounts.{Throughout, left_along, ledger_along, new_board}
-use Rattle.law.specs.Calls.{Call, Board}
+use Rattle.law.specs.Calls.{Call, Board, board_of}
 use Rattle.law.specs.Law.{Law}
 use Rattle.law.specs.Ledger.{opened}
-use Rattle.run.specs.Commands.{board_of}
 
 -- over any lawful memory it holds at the start and after each call, whatever is called
 abbrev pub LawFrom : Geometry → List Processor → List Line → List LockEntry → Type 0
