@@ -1,0 +1,5 @@
+// Locks that program code holds, and what it can do with one alone.
+#![tactic(auto)]
+
+pub mod bump;
+pub mod hold;
