@@ -3,3 +3,5 @@
 
 pub mod bump;
 pub mod hold;
+#[cfg(test)]
+mod tests;

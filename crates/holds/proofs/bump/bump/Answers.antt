@@ -1,4 +1,4 @@
-use Rattle.std.proofs.Common.{sym, ap, ◌∙◌}
+use Rattle.std.proofs.Common.{ap, ◌∙◌}
 use Rattle.cluster.specs.Rule.{Outcome}
 use Rattle.holds.specs.Issued.{board_of, left_along}
 use Rattle.holds.specs.Holding.{hold_at}
