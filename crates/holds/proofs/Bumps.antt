@@ -1,0 +1,100 @@
+-- A bump is its two commands, and what a done one makes of a ledger.
+use Rattle.std.proofs.Common.{◌≡◌, ℕ, Bool, true, false, cond, eqb, [], Ok, Err, Result, sym, refl, ap, ◌∙◌, subst, arith}
+use Rattle.std.proofs.lemmas.Bool.Decides.{nat_tests}
+use Rattle.protocol.specs.declared.answer.Answer.{Answer}
+use Rattle.protocol.specs.declared.answer.Answer.TheVariants.{Done, Wait}
+use Rattle.protocol.specs.declared.answer.Completion.{Completion}
+use Rattle.protocol.specs.declared.command.Command.TheVariants.{LR, UW}
+use Rattle.protocol.specs.declared.measures.Measures.{Measures}
+use Rattle.protocol.specs.declared.refusal.Refusal.{Refusal}
+use Rattle.cluster.specs.Rule.{Outcome}
+use Rattle.law.specs.Calls.{command, Board, command_on, left_by}
+use Rattle.law.specs.Ledger.{Ledger, entered, released as lock_released, command_fed}
+use Rattle.holds.specs.declared.hold.Hold.{Hold}
+use Rattle.holds.specs.declared.hold.Taken.TheVariants.{Held, NotHeld}
+use Rattle.holds.specs.declared.hold.Released.TheVariants.{Ended, Back}
+use Rattle.holds.specs.Issued.{by, left_along, fed_along}
+use Rattle.holds.specs.Holding.{hold_at, taken, ends, released, sent, releasing}
+use Rattle.holds.specs.Bumping.{one_more, word_back, bumped_from, bump_rule, bumping_after, bumping, word_read, OneHigher, Bumped}
+
+pub held : (mine hold : Hold) (done : Completion) (r : Result Answer Refusal) → Held hold done ≡ taken mine r → (hold ≡ mine) × (r ≡ Ok (Done done))
+held mine hold done (Ok (Done d)) h = (cc, cc)
+held mine hold done (Ok (Wait hit)) h = absurd (cc)
+held mine hold done (Err e) h = absurd (cc)
+
+pub ended : (hold : Hold) (r answer : Result Answer Refusal) → Ended answer ≡ released hold r → answer ≡ r
+ended hold r answer = by_end (ends r)
+  where
+    by_end : (b : Bool) → Ended answer ≡ cond b (Ended r) (Back hold r) → answer ≡ r
+    by_end true h = cc
+    by_end false h = absurd (cc)
+
+pub back : (hold again : Hold) (r answer : Result Answer Refusal) → Back again answer ≡ released hold r → answer ≡ r
+back hold again r answer = by_end (ends r)
+  where
+    by_end : (b : Bool) → Back again answer ≡ cond b (Ended r) (Back hold r) → answer ≡ r
+    by_end true h = absurd (cc)
+    by_end false h = cc
+
+itself : (n : ℕ) → eqb n n ≡ true
+itself n = grind (arith, nat_tests)
+
+module _ (m : Measures) (processor address : ℕ) where
+  one_higher : (word : ℕ) (ul : Bool) (l : Ledger) → OneHigher processor address word (lock_released processor address ul (entered address (one_more word) l))
+  one_higher word true l = record { word = rw (itself address) refl; free = rw (itself processor, itself address) refl }
+  one_higher word false l = record { word = rw (itself address) refl; free = rw (itself processor, itself address) refl }
+
+  module _ (b : Board) where
+    abbrev first : Outcome
+    first = command_on m b (by processor LR address)
+
+    abbrev pub locked : Board
+    locked = left_by m b (command (by processor LR address))
+
+    abbrev fed_first : Result Answer Refusal → Ledger → Ledger
+    fed_first r l = fed_along m locked (bumping_after m processor address r) (command_fed (by processor LR address) r l)
+
+    -- a bump whose LR is not done is that LR
+    pub record Stops (r answer : Result Answer Refusal) : Type 0 where
+      pub answered : answer ≡ r
+      pub rule : first ≡ bumped_from m processor address first r
+      pub calls : [] ≡ bumping_after m processor address r
+      pub bumped : Bumped m processor address b answer
+
+    pub stops : (hold : Hold) (answer r : Result Answer Refusal) → NotHeld answer ≡ taken hold r → Stops r answer
+    stops hold answer (Ok (Done d)) h = absurd (cc)
+    stops hold (Ok (Done d)) (Ok (Wait hit)) h = absurd (cc)
+    stops hold (Ok (Wait hit')) (Ok (Wait hit)) h = record { answered = cc; rule = refl; calls = refl; bumped = tt }
+    stops hold (Err e) (Ok (Wait hit)) h = absurd (cc)
+    stops hold (Ok (Done d)) (Err e) h = absurd (cc)
+    stops hold (Ok (Wait hit)) (Err e) h = absurd (cc)
+    stops hold (Err e') (Err e) h = record { answered = cc; rule = refl; calls = refl; bumped = tt }
+
+    fed_twice : (done : Completion) → first.answer ≡ Ok (Done done) → (r : Result Answer Refusal)
+        → (command_on m locked (word_back m processor address done.word)).answer ≡ r → Bumped m processor address b r
+    fed_twice done h (Ok (Wait hit)) h' = tt
+    fed_twice done h (Err e) h' = tt
+    fed_twice done h (Ok (Done d)) h' = λ l.
+        let q = word_back m processor address done.word in
+        let held = command_fed (by processor LR address) (Ok (Done done)) l in
+        let P : Result Answer Refusal → Type 0 = λ r. OneHigher processor address (word_read r) (fed_first r l) in
+        let Q : Result Answer Refusal → Type 0 = λ r. OneHigher processor address done.word (command_fed q r held) in
+        subst P (sym h) (subst Q (sym h') (one_higher done.word d.ul held))
+
+    -- a bump whose LR is done is UW too, from what LR left
+    pub record Goes (m' : Measures) (b' : Board) (hold : Hold) (word : ℕ) : Type 0 where
+      pub rule : command_on m' b' (sent hold (UW (one_more word))) ≡ bump_rule m processor address b.processors b.lines b.locks b.memory
+      pub calls : left_along m' b' (releasing hold (UW (one_more word))) ≡ left_along m b (bumping m processor address b)
+      pub bumped : (answer : Result Answer Refusal) → answer ≡ (command_on m' b' (sent hold (UW (one_more word)))).answer → Bumped m processor address b answer
+
+    pub goes : (m' : Measures) (b' : Board) (hold : Hold) (done : Completion)
+        → m' ≡ m → b' ≡ locked → hold ≡ hold_at processor address → first.answer ≡ Ok (Done done) → Goes m' b' hold done.word
+    goes m' b' hold done em eb eh e =
+        let uw = UW (one_more done.word) in
+        let moved : command_on m' b' (sent hold uw) ≡ command_on m locked (word_back m processor address done.word)
+        = λ i. command_on (em i) (eb i) (sent (eh i) uw) in
+        record {
+          rule = moved ∙ sym (ap (bumped_from m processor address first) e);
+          calls = (λ i. left_by (em i) (eb i) (command (sent (eh i) uw))) ∙ sym (ap (λ r. left_along m locked (bumping_after m processor address r)) e);
+          bumped = λ answer is. fed_twice done e answer (sym (ap (λ (o : Outcome). o.answer) moved) ∙ sym is);
+        }

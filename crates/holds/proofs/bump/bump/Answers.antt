@@ -1,0 +1,84 @@
+use Rattle.std.proofs.Common.{ap, ◌∙◌}
+use Rattle.cluster.specs.Rule.{Outcome}
+use Rattle.holds.specs.Issued.{board_of, left_along}
+use Rattle.holds.specs.Holding.{hold_at}
+use Rattle.holds.proofs.Bumps.{held, ended, back, locked, stops, goes}
+use Rattle.holds.proofs.bump.bump.Goals as goal
+
+pub returns-in-NotHeld : goal.returns-in-NotHeld
+returns-in-NotHeld g c =
+    let p = c.args.processor in
+    let a = c.args.address in
+    let m = c.args.cluster.now.geometry.measures in
+    let b = board_of c.args.cluster.now c.args.lines.now c.args.locks.now (g.M.Memory.model c.args.memory.now) in
+    let t = c.in-NotHeld.ensures in
+    let s = stops m p a b (hold_at p a) _ _ t.answer in
+    record {
+      answer = s.answered ∙ ap (λ (o : Outcome). o.answer) s.rule;
+      processors = t.processors ∙ ap (λ (o : Outcome). o.processors) s.rule;
+      lines = t.lines ∙ ap (λ (o : Outcome). o.lines) s.rule;
+      locks = t.locks ∙ ap (λ (o : Outcome). o.locks) s.rule;
+      memory = t.memory ∙ ap (λ (o : Outcome). o.memory) s.rule;
+      geometry = t.geometry;
+      kept = t.kept;
+      commands = t.commands ∙ ap (left_along m (locked m p a b)) s.calls;
+      bumped = s.bumped;
+    }
+
+pub returns-in-Ended : goal.returns-in-Ended
+returns-in-Ended g c =
+    let p = c.args.processor in
+    let a = c.args.address in
+    let cluster = c.args.cluster.now in
+    let m = cluster.geometry.measures in
+    let b = board_of cluster c.args.lines.now c.args.locks.now (g.M.Memory.model c.args.memory.now) in
+    let t = c.in-Held.ensures in
+    let r = c.in-Ended.ensures in
+    let after = c.take.new in
+    let n = after.cluster.geometry.measures in
+    let d = board_of after.cluster after.lines after.locks (g.M.Memory.model after.memory) in
+    let hold = c.in-Held.hold in
+    let done = c.in-Held.taken in
+    let had = held (hold_at p a) hold done _ t.answer in
+    let then = goes m p a b n d hold done (ap (λ k. k.measures) t.geometry) t.commands had.0 had.1 in
+    let answered = ended _ _ _ r.answer in
+    record {
+      answer = answered ∙ ap (λ (o : Outcome). o.answer) then.rule;
+      processors = r.processors ∙ ap (λ (o : Outcome). o.processors) then.rule;
+      lines = r.lines ∙ ap (λ (o : Outcome). o.lines) then.rule;
+      locks = r.locks ∙ ap (λ (o : Outcome). o.locks) then.rule;
+      memory = r.memory ∙ ap (λ (o : Outcome). o.memory) then.rule;
+      geometry = r.geometry ∙ t.geometry;
+      kept = r.kept ∙ t.kept;
+      commands = r.commands ∙ then.calls;
+      bumped = then.bumped _ answered;
+    }
+
+pub returns-in-Back : goal.returns-in-Back
+returns-in-Back g c =
+    let p = c.args.processor in
+    let a = c.args.address in
+    let cluster = c.args.cluster.now in
+    let m = cluster.geometry.measures in
+    let b = board_of cluster c.args.lines.now c.args.locks.now (g.M.Memory.model c.args.memory.now) in
+    let t = c.in-Held.ensures in
+    let r = c.in-Back.ensures in
+    let after = c.take.new in
+    let n = after.cluster.geometry.measures in
+    let d = board_of after.cluster after.lines after.locks (g.M.Memory.model after.memory) in
+    let hold = c.in-Held.hold in
+    let done = c.in-Held.taken in
+    let had = held (hold_at p a) hold done _ t.answer in
+    let then = goes m p a b n d hold done (ap (λ k. k.measures) t.geometry) t.commands had.0 had.1 in
+    let answered = back _ _ _ _ r.answer in
+    record {
+      answer = answered ∙ ap (λ (o : Outcome). o.answer) then.rule;
+      processors = r.processors ∙ ap (λ (o : Outcome). o.processors) then.rule;
+      lines = r.lines ∙ ap (λ (o : Outcome). o.lines) then.rule;
+      locks = r.locks ∙ ap (λ (o : Outcome). o.locks) then.rule;
+      memory = r.memory ∙ ap (λ (o : Outcome). o.memory) then.rule;
+      geometry = r.geometry ∙ t.geometry;
+      kept = r.kept ∙ t.kept;
+      commands = r.commands ∙ then.calls;
+      bumped = then.bumped _ answered;
+    }

@@ -1,0 +1,58 @@
+-- A bump: LR as a hold, then UW with the word plus 1.
+use Rattle.std.specs.Prelude.{◌≡◌, ℕ, ◌+◌, ◌^◌, ◌%◌, false, List, [], ◌∷◌, Some, Ok, Err, Result}
+use Rattle.protocol.specs.declared.answer.Answer.{Answer}
+use Rattle.protocol.specs.declared.answer.Answer.TheVariants.{Done, Wait}
+use Rattle.protocol.specs.declared.command.Command.TheVariants.{LR, UW}
+use Rattle.protocol.specs.declared.command.Request.{Request}
+use Rattle.protocol.specs.declared.line.Line.{Line}
+use Rattle.protocol.specs.declared.lock.LockEntry.{LockEntry}
+use Rattle.protocol.specs.declared.measures.Measures.{Measures}
+use Rattle.protocol.specs.declared.refusal.Refusal.{Refusal}
+use Rattle.memory.specs.Meaning.{Mem}
+use Rattle.cluster.specs.declared.cluster.Processor.{Processor}
+use Rattle.cluster.specs.Rule.{Outcome, command_rule}
+use Rattle.law.specs.Calls.{Call, command, Board, command_on}
+use Rattle.law.specs.Ledger.{Ledger}
+use Rattle.holds.specs.Issued.{by, fed_along}
+
+abbrev pub one_more : ℕ → ℕ
+one_more word = (word + 1) % 2 ^ 32
+
+module _ (m : Measures) (processor address : ℕ) where
+  abbrev pub word_back : ℕ → Request
+  word_back word = by processor (UW (one_more word)) address
+
+  -- a done LR is followed by UW; any other answer is the bump's
+  abbrev pub bumped_from : Outcome → Result Answer Refusal → Outcome
+  bumped_from o (Ok (Done done)) = command_rule m o.processors o.lines o.locks o.memory (word_back done.word)
+  bumped_from o (Ok (Wait hit)) = o
+  bumped_from o (Err refusal) = o
+
+  abbrev pub bump_rule : List Processor → List Line → List LockEntry → Mem → Outcome
+  bump_rule ps lines locks mem = let o = command_rule m ps lines locks mem (by processor LR address) in bumped_from o o.answer
+
+  -- the commands issued
+  abbrev pub bumping_after : Result Answer Refusal → List Call
+  bumping_after (Ok (Done done)) = command (word_back done.word) ∷ []
+  bumping_after (Ok (Wait hit)) = []
+  bumping_after (Err refusal) = []
+
+  abbrev pub bumping : Board → List Call
+  bumping b = command (by processor LR address) ∷ bumping_after (command_on m b (by processor LR address)).answer
+
+abbrev pub word_read : Result Answer Refusal → ℕ
+word_read (Ok (Done done)) = done.word
+word_read (Ok (Wait hit)) = 0
+word_read (Err refusal) = 0
+
+-- the address has the word one higher, and the lock is free
+pub record OneHigher (processor address read : ℕ) (l : Ledger) : Type 0 where
+  pub word : l.words address ≡ Some (one_more read)
+  pub free : l.holds processor address ≡ false
+
+-- what a done bump makes of any ledger; the word is the one that LR answered
+abbrev pub Bumped : Measures → ℕ → ℕ → Board → Result Answer Refusal → Type 0
+Bumped m processor address b (Ok (Done done)) =
+    (l : Ledger) → OneHigher processor address (word_read (command_on m b (by processor LR address)).answer) (fed_along m b (bumping m processor address b) l)
+Bumped m processor address b (Ok (Wait hit)) = Unit {0}
+Bumped m processor address b (Err refusal) = Unit {0}

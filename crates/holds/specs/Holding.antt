@@ -1,0 +1,45 @@
+-- What the answer of a command makes of a hold.
+use Rattle.std.specs.Prelude.{ℕ, Bool, true, false, cond, List, [], ◌∷◌, Ok, Err, Result, ◌==◌}
+use Rattle.protocol.specs.declared.answer.Answer.{Answer}
+use Rattle.protocol.specs.declared.answer.Answer.TheVariants.{Done, Wait}
+use Rattle.protocol.specs.declared.command.Command.{Command}
+use Rattle.protocol.specs.declared.command.Command.TheVariants.{LR}
+use Rattle.protocol.specs.declared.command.Request.{Request}
+use Rattle.protocol.specs.declared.refusal.Refusal.{Refusal}
+use Rattle.protocol.specs.Numbers.{number_of}
+use Rattle.law.specs.Calls.{Call, command}
+use Rattle.holds.specs.declared.hold.Hold.{Hold}
+use Rattle.holds.specs.declared.hold.Taken.{Taken}
+use Rattle.holds.specs.declared.hold.Taken.TheVariants.{Held, NotHeld}
+use Rattle.holds.specs.declared.hold.Released.{Released}
+use Rattle.holds.specs.declared.hold.Released.TheVariants.{Ended, Back}
+use Rattle.holds.specs.Issued.{by}
+
+abbrev pub hold_at : ℕ → ℕ → Hold
+hold_at processor address = record { processor = processor; address = address }
+
+-- a done answer gives the hold with it, any other is given alone
+abbrev pub taken : Hold → Result Answer Refusal → Taken
+taken hold (Ok (Done done)) = Held hold done
+taken hold (Ok (Wait hit)) = NotHeld (Ok (Wait hit))
+taken hold (Err refusal) = NotHeld (Err refusal)
+
+-- done, or refused with 8, ends a hold
+abbrev pub ends : Result Answer Refusal → Bool
+ends (Ok (Done done)) = true
+ends (Ok (Wait hit)) = false
+ends (Err refusal) = number_of refusal == 8
+
+-- every other answer gives it back
+abbrev pub released : Hold → Result Answer Refusal → Released
+released hold answer = cond (ends answer) (Ended answer) (Back hold answer)
+
+abbrev pub sent : Hold → Command → Request
+sent hold released_by = by hold.processor released_by hold.address
+
+-- the commands issued
+abbrev pub taking : ℕ → ℕ → List Call
+taking processor address = command (by processor LR address) ∷ []
+
+abbrev pub releasing : Hold → Command → List Call
+releasing hold released_by = command (sent hold released_by) ∷ []

@@ -1,0 +1,3 @@
+pub mod Issued
+pub mod Holding
+pub mod Bumping
