@@ -13,7 +13,8 @@ use Rattle.law.specs.Ledger.{Ledger, entered, released as lock_released, command
 use Rattle.holds.specs.declared.hold.Hold.{Hold}
 use Rattle.holds.specs.declared.hold.Taken.TheVariants.{Held, NotHeld}
 use Rattle.holds.specs.declared.hold.Released.TheVariants.{Ended, Back}
-use Rattle.holds.specs.Issued.{by, left_along, fed_along}
+use Rattle.law.specs.Accounts.{left_along, ledger_along}
+use Rattle.holds.specs.Issued.{by}
 use Rattle.holds.specs.Holding.{hold_at, taken, ends, released, sent, releasing}
 use Rattle.holds.specs.Bumping.{one_more, word_back, bumped_from, bump_rule, bumping_after, bumping, word_read, OneHigher, Bumped}
 
@@ -52,7 +53,7 @@ module _ (m : Measures) (processor address : ℕ) where
     locked = left_by m b (command (by processor LR address))
 
     abbrev fed_first : Result Answer Refusal → Ledger → Ledger
-    fed_first r l = fed_along m locked (bumping_after m processor address r) (command_fed (by processor LR address) r l)
+    fed_first r l = ledger_along m locked (command_fed (by processor LR address) r l) (bumping_after m processor address r)
 
     -- a bump whose LR is not done is that LR
     pub record Stops (r answer : Result Answer Refusal) : Type 0 where

@@ -13,7 +13,8 @@ use Rattle.cluster.specs.declared.cluster.Processor.{Processor}
 use Rattle.cluster.specs.Rule.{Outcome, command_rule}
 use Rattle.law.specs.Calls.{Call, command, Board, command_on}
 use Rattle.law.specs.Ledger.{Ledger}
-use Rattle.holds.specs.Issued.{by, fed_along}
+use Rattle.law.specs.Accounts.{ledger_along}
+use Rattle.holds.specs.Issued.{by}
 
 abbrev pub one_more : ℕ → ℕ
 one_more word = (word + 1) % 2 ^ 32
@@ -53,6 +54,6 @@ pub record OneHigher (processor address read : ℕ) (l : Ledger) : Type 0 where
 -- what a done bump makes of any ledger; the word is the one that LR answered
 abbrev pub Bumped : Measures → ℕ → ℕ → Board → Result Answer Refusal → Type 0
 Bumped m processor address b (Ok (Done done)) =
-    (l : Ledger) → OneHigher processor address (word_read (command_on m b (by processor LR address)).answer) (fed_along m b (bumping m processor address b) l)
+    (l : Ledger) → OneHigher processor address (word_read (command_on m b (by processor LR address)).answer) (ledger_along m b l (bumping m processor address b))
 Bumped m processor address b (Ok (Wait hit)) = Unit {0}
 Bumped m processor address b (Err refusal) = Unit {0}

@@ -1,6 +1,7 @@
 // Raising a word by one under a lock.
 ghost use Rattle.std.specs.Prelude.{◌≡◌};
-ghost use Rattle.holds.specs.Issued.{board_of, left_along};
+ghost use Rattle.holds.specs.Issued.{board_with};
+ghost use Rattle.law.specs.Accounts.{left_along};
 ghost use Rattle.holds.specs.Bumping.{bump_rule, bumping, Bumped};
 
 use crate::hold::{Hold, Released, Taken};
@@ -29,8 +30,8 @@ pub fn bump<M: Memory>(
     ensures memory { M.Memory.model memory.new ≡ (bump_rule cluster.old.geometry.measures processor address cluster.old.processors lines.old locks.old (M.Memory.model memory.old)).memory }
     ensures geometry { cluster.new.geometry ≡ cluster.old.geometry }
     ensures kept { M.Memory.standing memory.new ≡ M.Memory.standing memory.old }
-    ensures commands { board_of cluster.new lines.new locks.new (M.Memory.model memory.new) ≡ left_along cluster.old.geometry.measures (board_of cluster.old lines.old locks.old (M.Memory.model memory.old)) (bumping cluster.old.geometry.measures processor address (board_of cluster.old lines.old locks.old (M.Memory.model memory.old))) }
-    ensures bumped { Bumped cluster.old.geometry.measures processor address (board_of cluster.old lines.old locks.old (M.Memory.model memory.old)) result }
+    ensures commands { board_with cluster.new lines.new locks.new (M.Memory.model memory.new) ≡ left_along cluster.old.geometry.measures (board_with cluster.old lines.old locks.old (M.Memory.model memory.old)) (bumping cluster.old.geometry.measures processor address (board_with cluster.old lines.old locks.old (M.Memory.model memory.old))) }
+    ensures bumped { Bumped cluster.old.geometry.measures processor address (board_with cluster.old lines.old locks.old (M.Memory.model memory.old)) result }
 {
     let (hold, taken) = match Hold::take(cluster, lines, locks, memory, processor, address) {
         Taken::Held(hold, taken) => (hold, taken),

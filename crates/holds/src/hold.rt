@@ -1,7 +1,8 @@
 // A hold: a lock that program code has taken and cannot forget.
 ghost use Rattle.std.specs.Prelude.{◌≡◌};
 ghost use Rattle.cluster.specs.Rule.{command_rule};
-ghost use Rattle.holds.specs.Issued.{by, board_of, left_along};
+ghost use Rattle.holds.specs.Issued.{by, board_with};
+ghost use Rattle.law.specs.Accounts.{left_along};
 ghost use Rattle.holds.specs.Holding.{hold_at, taken, ends, released, sent, taking, releasing};
 
 use cluster::cluster::Cluster;
@@ -54,7 +55,7 @@ impl Hold {
         ensures memory { M.Memory.model memory.new ≡ (command_rule cluster.old.geometry.measures cluster.old.processors lines.old locks.old (M.Memory.model memory.old) (by processor Command.LR address)).memory }
         ensures geometry { cluster.new.geometry ≡ cluster.old.geometry }
         ensures kept { M.Memory.standing memory.new ≡ M.Memory.standing memory.old }
-        ensures commands { board_of cluster.new lines.new locks.new (M.Memory.model memory.new) ≡ left_along cluster.old.geometry.measures (board_of cluster.old lines.old locks.old (M.Memory.model memory.old)) (taking processor address) }
+        ensures commands { board_with cluster.new lines.new locks.new (M.Memory.model memory.new) ≡ left_along cluster.old.geometry.measures (board_with cluster.old lines.old locks.old (M.Memory.model memory.old)) (taking processor address) }
     {
         let request = Request {
             processor,
@@ -113,7 +114,7 @@ impl Hold {
         ensures memory { M.Memory.model memory.new ≡ (command_rule cluster.old.geometry.measures cluster.old.processors lines.old locks.old (M.Memory.model memory.old) (sent self Command.U)).memory }
         ensures geometry { cluster.new.geometry ≡ cluster.old.geometry }
         ensures kept { M.Memory.standing memory.new ≡ M.Memory.standing memory.old }
-        ensures commands { board_of cluster.new lines.new locks.new (M.Memory.model memory.new) ≡ left_along cluster.old.geometry.measures (board_of cluster.old lines.old locks.old (M.Memory.model memory.old)) (releasing self Command.U) }
+        ensures commands { board_with cluster.new lines.new locks.new (M.Memory.model memory.new) ≡ left_along cluster.old.geometry.measures (board_with cluster.old lines.old locks.old (M.Memory.model memory.old)) (releasing self Command.U) }
     {
         self.send(cluster, lines, locks, memory, Command::U)
     }
@@ -134,7 +135,7 @@ impl Hold {
         ensures memory { M.Memory.model memory.new ≡ (command_rule cluster.old.geometry.measures cluster.old.processors lines.old locks.old (M.Memory.model memory.old) (sent self (Command.UW word))).memory }
         ensures geometry { cluster.new.geometry ≡ cluster.old.geometry }
         ensures kept { M.Memory.standing memory.new ≡ M.Memory.standing memory.old }
-        ensures commands { board_of cluster.new lines.new locks.new (M.Memory.model memory.new) ≡ left_along cluster.old.geometry.measures (board_of cluster.old lines.old locks.old (M.Memory.model memory.old)) (releasing self (Command.UW word)) }
+        ensures commands { board_with cluster.new lines.new locks.new (M.Memory.model memory.new) ≡ left_along cluster.old.geometry.measures (board_with cluster.old lines.old locks.old (M.Memory.model memory.old)) (releasing self (Command.UW word)) }
     {
         self.send(cluster, lines, locks, memory, Command::UW(word))
     }

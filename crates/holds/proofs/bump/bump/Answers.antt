@@ -1,6 +1,7 @@
 use Rattle.std.proofs.Common.{ap, ◌∙◌}
 use Rattle.cluster.specs.Rule.{Outcome}
-use Rattle.holds.specs.Issued.{board_of, left_along}
+use Rattle.law.specs.Accounts.{left_along}
+use Rattle.holds.specs.Issued.{board_with}
 use Rattle.holds.specs.Holding.{hold_at}
 use Rattle.holds.proofs.Bumps.{held, ended, back, locked, stops, goes}
 use Rattle.holds.proofs.bump.bump.Goals as goal
@@ -10,7 +11,7 @@ returns-in-NotHeld g c =
     let p = c.args.processor in
     let a = c.args.address in
     let m = c.args.cluster.now.geometry.measures in
-    let b = board_of c.args.cluster.now c.args.lines.now c.args.locks.now (g.M.Memory.model c.args.memory.now) in
+    let b = board_with c.args.cluster.now c.args.lines.now c.args.locks.now (g.M.Memory.model c.args.memory.now) in
     let t = c.in-NotHeld.ensures in
     let s = stops m p a b (hold_at p a) _ _ t.answer in
     record {
@@ -31,12 +32,12 @@ returns-in-Ended g c =
     let a = c.args.address in
     let cluster = c.args.cluster.now in
     let m = cluster.geometry.measures in
-    let b = board_of cluster c.args.lines.now c.args.locks.now (g.M.Memory.model c.args.memory.now) in
+    let b = board_with cluster c.args.lines.now c.args.locks.now (g.M.Memory.model c.args.memory.now) in
     let t = c.in-Held.ensures in
     let r = c.in-Ended.ensures in
     let after = c.take.new in
     let n = after.cluster.geometry.measures in
-    let d = board_of after.cluster after.lines after.locks (g.M.Memory.model after.memory) in
+    let d = board_with after.cluster after.lines after.locks (g.M.Memory.model after.memory) in
     let hold = c.in-Held.hold in
     let done = c.in-Held.taken in
     let had = held (hold_at p a) hold done _ t.answer in
@@ -60,12 +61,12 @@ returns-in-Back g c =
     let a = c.args.address in
     let cluster = c.args.cluster.now in
     let m = cluster.geometry.measures in
-    let b = board_of cluster c.args.lines.now c.args.locks.now (g.M.Memory.model c.args.memory.now) in
+    let b = board_with cluster c.args.lines.now c.args.locks.now (g.M.Memory.model c.args.memory.now) in
     let t = c.in-Held.ensures in
     let r = c.in-Back.ensures in
     let after = c.take.new in
     let n = after.cluster.geometry.measures in
-    let d = board_of after.cluster after.lines after.locks (g.M.Memory.model after.memory) in
+    let d = board_with after.cluster after.lines after.locks (g.M.Memory.model after.memory) in
     let hold = c.in-Held.hold in
     let done = c.in-Held.taken in
     let had = held (hold_at p a) hold done _ t.answer in
