@@ -1,22 +1,26 @@
 -- A bump is its two commands, and what a done one makes of a ledger.
-use Rattle.std.proofs.Common.{◌≡◌, ℕ, Bool, true, false, cond, eqb, [], Ok, Err, Result, sym, refl, ap, ◌∙◌, subst, arith}
+use Rattle.std.proofs.Common.{◌≡◌, ℕ, Bool, true, false, cond, eqb, List, [], IfSome, Some, None, Option, Ok, Err, Result, sym, refl, ap, ◌∙◌, subst, arith}
 use Rattle.std.proofs.lemmas.Bool.Decides.{nat_tests}
 use Rattle.protocol.specs.declared.answer.Answer.{Answer}
 use Rattle.protocol.specs.declared.answer.Answer.TheVariants.{Done, Wait}
 use Rattle.protocol.specs.declared.answer.Completion.{Completion}
 use Rattle.protocol.specs.declared.command.Command.TheVariants.{LR, UW}
+use Rattle.protocol.specs.declared.geometry.Geometry.{Geometry}
 use Rattle.protocol.specs.declared.measures.Measures.{Measures}
 use Rattle.protocol.specs.declared.refusal.Refusal.{Refusal}
+use Rattle.memory.specs.Meaning.{Mem, Lawful}
 use Rattle.cluster.specs.Rule.{Outcome}
 use Rattle.law.specs.Calls.{command, Board, command_on, left_by}
-use Rattle.law.specs.Ledger.{Ledger, entered, released as lock_released, command_fed}
+use Rattle.law.specs.Ledger.{Ledger, opened, entered, released as lock_released, command_fed}
 use Rattle.holds.specs.declared.hold.Hold.{Hold}
 use Rattle.holds.specs.declared.hold.Taken.TheVariants.{Held, NotHeld}
 use Rattle.holds.specs.declared.hold.Released.TheVariants.{Ended, Back}
-use Rattle.law.specs.Accounts.{left_along, ledger_along}
+use Rattle.law.specs.Accounts.{left_along, ledger_along, new_board}
+use Rattle.law.specs.Law.{OnDone}
+use Rattle.law.proofs.Along.{law_along}
 use Rattle.holds.specs.Issued.{by}
 use Rattle.holds.specs.Holding.{hold_at, taken, ends, released, sent, releasing}
-use Rattle.holds.specs.Bumping.{one_more, word_back, bumped_from, bump_rule, bumping_after, bumping, word_read, OneHigher, Bumped}
+use Rattle.holds.specs.Bumping.{one_more, word_back, bumped_from, bump_rule, bumping_after, bumping, word_read, OneHigher, Bumped, RaisedByOne, Raised}
 
 pub held : (mine hold : Hold) (done : Completion) (r : Result Answer Refusal) → Held hold done ≡ taken mine r → (hold ≡ mine) × (r ≡ Ok (Done done))
 held mine hold done (Ok (Done d)) h = (cc, cc)
@@ -99,3 +103,38 @@ module _ (m : Measures) (processor address : ℕ) where
           calls = (λ i. left_by (em i) (eb i) (command (sent (eh i) uw))) ∙ sym (ap (λ r. left_along m locked (bumping_after m processor address r)) e);
           bumped = λ answer is. fed_twice done e answer (sym (ap (λ (o : Outcome). o.answer) moved) ∙ sym is);
         }
+
+-- the ledger's word is the one that LR reads
+pub raised : (g : Geometry) (processor address : ℕ) (b : Board) (r : Result Answer Refusal)
+    → r ≡ (bump_rule g.measures processor address b.processors b.lines b.locks b.memory).answer
+    → Bumped g.measures processor address b r → Raised g processor address b r
+raised g processor address b r is made mem lawful calls from = by_first first.answer refl r is made
+  where
+    first : Outcome
+    first = command_on g.measures b (by processor LR address)
+
+    before : Ledger
+    before = ledger_along g.measures (new_board g.measures mem) (opened mem) calls
+
+    after : Ledger
+    after = ledger_along g.measures b before (bumping g.measures processor address b)
+
+    read : OnDone first.answer (λ done. IfSome (before.words address) (λ word. done.word ≡ word))
+    read = (law_along g b [] mem lawful calls from).reads_ledger (by processor LR address) refl
+
+    by_first : (x : Result Answer Refusal) → first.answer ≡ x → (r : Result Answer Refusal)
+        → r ≡ (bump_rule g.measures processor address b.processors b.lines b.locks b.memory).answer
+        → Bumped g.measures processor address b r → OnDone r (λ done. RaisedByOne processor address before after)
+    by_first x e (Ok (Wait hit)) is made = tt
+    by_first x e (Err refusal) is made = tt
+    by_first (Ok (Wait hit)) e (Ok (Done d)) is made = absurd (cc (is ∙ ap (λ y. (bumped_from g.measures processor address first y).answer) e ∙ e))
+    by_first (Err refusal) e (Ok (Done d)) is made = absurd (cc (is ∙ ap (λ y. (bumped_from g.measures processor address first y).answer) e ∙ e))
+    by_first (Ok (Done done)) e (Ok (Done d)) is made =
+        let higher = made before in
+        record { word = by_word (before.words address) refl; free = higher.free }
+      where
+        by_word : (w : Option ℕ) → before.words address ≡ w → IfSome w (λ word. after.words address ≡ Some (one_more word))
+        by_word None same = tt
+        by_word (Some word) same =
+            let told : done.word ≡ word = subst (λ o. IfSome o (λ word. done.word ≡ word)) same (subst (λ a. OnDone a (λ done. IfSome (before.words address) (λ word. done.word ≡ word))) e read) in
+            (made before).word ∙ ap (λ a. Some (one_more (word_read a))) e ∙ ap (λ n. Some (one_more n)) told

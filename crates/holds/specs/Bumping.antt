@@ -1,5 +1,5 @@
 -- A bump: LR as a hold, then UW with the word plus 1.
-use Rattle.std.specs.Prelude.{◌≡◌, ℕ, ◌+◌, ◌^◌, ◌%◌, false, List, [], ◌∷◌, Some, Ok, Err, Result}
+use Rattle.std.specs.Prelude.{◌≡◌, ℕ, ◌+◌, ◌^◌, ◌%◌, false, List, [], ◌∷◌, IfSome, Some, Ok, Err, Result}
 use Rattle.protocol.specs.declared.answer.Answer.{Answer}
 use Rattle.protocol.specs.declared.answer.Answer.TheVariants.{Done, Wait}
 use Rattle.protocol.specs.declared.command.Command.TheVariants.{LR, UW}
@@ -8,12 +8,14 @@ use Rattle.protocol.specs.declared.line.Line.{Line}
 use Rattle.protocol.specs.declared.lock.LockEntry.{LockEntry}
 use Rattle.protocol.specs.declared.measures.Measures.{Measures}
 use Rattle.protocol.specs.declared.refusal.Refusal.{Refusal}
-use Rattle.memory.specs.Meaning.{Mem}
+use Rattle.protocol.specs.declared.geometry.Geometry.{Geometry}
+use Rattle.memory.specs.Meaning.{Mem, Lawful}
 use Rattle.cluster.specs.declared.cluster.Processor.{Processor}
 use Rattle.cluster.specs.Rule.{Outcome, command_rule}
 use Rattle.law.specs.Calls.{Call, command, Board, command_on}
-use Rattle.law.specs.Ledger.{Ledger}
-use Rattle.law.specs.Accounts.{ledger_along}
+use Rattle.law.specs.Law.{OnDone}
+use Rattle.law.specs.Ledger.{Ledger, opened}
+use Rattle.law.specs.Accounts.{left_along, ledger_along, new_board}
 use Rattle.holds.specs.Issued.{by}
 
 abbrev pub one_more : ℕ → ℕ
@@ -57,3 +59,15 @@ Bumped m processor address b (Ok (Done done)) =
     (l : Ledger) → OneHigher processor address (word_read (command_on m b (by processor LR address)).answer) (ledger_along m b l (bumping m processor address b))
 Bumped m processor address b (Ok (Wait hit)) = Unit {0}
 Bumped m processor address b (Err refusal) = Unit {0}
+
+-- in the words of the ledger before and after: its word is one higher, and the lock is free
+pub record RaisedByOne (processor address : ℕ) (before after : Ledger) : Type 0 where
+  pub word : IfSome (before.words address) (λ word. after.words address ≡ Some (one_more word))
+  pub free : after.holds processor address ≡ false
+
+-- so it is after a done bump, where calls from a new cluster led to it
+abbrev pub Raised : Geometry → ℕ → ℕ → Board → Result Answer Refusal → Type 0
+Raised g processor address b answer =
+    (mem : Mem) → Lawful mem → (calls : List Call) → b ≡ left_along g.measures (new_board g.measures mem) calls
+    → let before = ledger_along g.measures (new_board g.measures mem) (opened mem) calls in
+    OnDone answer (λ done. RaisedByOne processor address before (ledger_along g.measures b before (bumping g.measures processor address b)))
