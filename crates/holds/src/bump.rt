@@ -2,7 +2,8 @@
 ghost use Rattle.std.specs.Prelude.{◌≡◌};
 ghost use Rattle.holds.specs.Issued.{board_with};
 ghost use Rattle.law.specs.Accounts.{left_along};
-ghost use Rattle.holds.specs.Bumping.{bump_rule, bumping, Bumped};
+ghost use Rattle.law.specs.Along.{LawAlong};
+ghost use Rattle.holds.specs.Bumping.{bump_rule, bumping, Bumped, Raised};
 
 use crate::hold::{Hold, Released, Taken};
 use cluster::cluster::Cluster;
@@ -31,6 +32,8 @@ pub fn bump<M: Memory>(
     ensures geometry { cluster.new.geometry ≡ cluster.old.geometry }
     ensures kept { M.Memory.standing memory.new ≡ M.Memory.standing memory.old }
     ensures commands { board_with cluster.new lines.new locks.new (M.Memory.model memory.new) ≡ left_along cluster.old.geometry.measures (board_with cluster.old lines.old locks.old (M.Memory.model memory.old)) (bumping cluster.old.geometry.measures processor address (board_with cluster.old lines.old locks.old (M.Memory.model memory.old))) }
+    ensures law { LawAlong cluster.old.geometry (board_with cluster.old lines.old locks.old (M.Memory.model memory.old)) (bumping cluster.old.geometry.measures processor address (board_with cluster.old lines.old locks.old (M.Memory.model memory.old))) }
+    ensures raised { Raised cluster.old.geometry processor address (board_with cluster.old lines.old locks.old (M.Memory.model memory.old)) result }
     ensures bumped { Bumped cluster.old.geometry.measures processor address (board_with cluster.old lines.old locks.old (M.Memory.model memory.old)) result }
 {
     let (hold, taken) = match Hold::take(cluster, lines, locks, memory, processor, address) {

@@ -3,6 +3,7 @@ ghost use Rattle.std.specs.Prelude.{◌≡◌};
 ghost use Rattle.cluster.specs.Rule.{command_rule};
 ghost use Rattle.holds.specs.Issued.{by, board_with};
 ghost use Rattle.law.specs.Accounts.{left_along};
+ghost use Rattle.law.specs.Along.{LawAlong};
 ghost use Rattle.holds.specs.Holding.{hold_at, taken, ends, released, sent, taking, releasing};
 
 use cluster::cluster::Cluster;
@@ -40,6 +41,7 @@ fn ends(answer: &Result<Answer, Refusal>) -> bool
 
 impl Hold {
     // Takes a lock: issues LR. The call is that command, so what holds of commands holds of it.
+    #[tactic(auto, using(law::proofs::Along::law_along))]
     pub fn take<M: Memory>(
         cluster: &mut Cluster,
         lines: &mut [Line],
@@ -56,6 +58,7 @@ impl Hold {
         ensures geometry { cluster.new.geometry ≡ cluster.old.geometry }
         ensures kept { M.Memory.standing memory.new ≡ M.Memory.standing memory.old }
         ensures commands { board_with cluster.new lines.new locks.new (M.Memory.model memory.new) ≡ left_along cluster.old.geometry.measures (board_with cluster.old lines.old locks.old (M.Memory.model memory.old)) (taking processor address) }
+        ensures law { LawAlong cluster.old.geometry (board_with cluster.old lines.old locks.old (M.Memory.model memory.old)) (taking processor address) }
     {
         let request = Request {
             processor,
@@ -100,6 +103,7 @@ impl Hold {
     }
 
     // Gives the lock back: issues U. The call is that command, so what holds of commands holds of it.
+    #[tactic(auto, using(law::proofs::Along::law_along))]
     pub fn release<M: Memory>(
         self,
         cluster: &mut Cluster,
@@ -115,11 +119,13 @@ impl Hold {
         ensures geometry { cluster.new.geometry ≡ cluster.old.geometry }
         ensures kept { M.Memory.standing memory.new ≡ M.Memory.standing memory.old }
         ensures commands { board_with cluster.new lines.new locks.new (M.Memory.model memory.new) ≡ left_along cluster.old.geometry.measures (board_with cluster.old lines.old locks.old (M.Memory.model memory.old)) (releasing self Command.U) }
+        ensures law { LawAlong cluster.old.geometry (board_with cluster.old lines.old locks.old (M.Memory.model memory.old)) (releasing self Command.U) }
     {
         self.send(cluster, lines, locks, memory, Command::U)
     }
 
     // Writes a word and gives the lock back: issues UW. The call is that command, so what holds of commands holds of it.
+    #[tactic(auto, using(law::proofs::Along::law_along))]
     pub fn release_with<M: Memory>(
         self,
         cluster: &mut Cluster,
@@ -136,6 +142,7 @@ impl Hold {
         ensures geometry { cluster.new.geometry ≡ cluster.old.geometry }
         ensures kept { M.Memory.standing memory.new ≡ M.Memory.standing memory.old }
         ensures commands { board_with cluster.new lines.new locks.new (M.Memory.model memory.new) ≡ left_along cluster.old.geometry.measures (board_with cluster.old lines.old locks.old (M.Memory.model memory.old)) (releasing self (Command.UW word)) }
+        ensures law { LawAlong cluster.old.geometry (board_with cluster.old lines.old locks.old (M.Memory.model memory.old)) (releasing self (Command.UW word)) }
     {
         self.send(cluster, lines, locks, memory, Command::UW(word))
     }

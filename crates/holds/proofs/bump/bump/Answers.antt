@@ -3,7 +3,9 @@ use Rattle.cluster.specs.Rule.{Outcome}
 use Rattle.law.specs.Accounts.{left_along}
 use Rattle.holds.specs.Issued.{board_with}
 use Rattle.holds.specs.Holding.{hold_at}
-use Rattle.holds.proofs.Bumps.{held, ended, back, locked, stops, goes}
+use Rattle.law.proofs.Along.{law_along}
+use Rattle.holds.specs.Bumping.{bumping}
+use Rattle.holds.proofs.Bumps.{held, ended, back, locked, stops, goes, raised}
 use Rattle.holds.proofs.bump.bump.Goals as goal
 
 pub returns-in-NotHeld : goal.returns-in-NotHeld
@@ -14,8 +16,9 @@ returns-in-NotHeld g c =
     let b = board_with c.args.cluster.now c.args.lines.now c.args.locks.now (g.M.Memory.model c.args.memory.now) in
     let t = c.in-NotHeld.ensures in
     let s = stops m p a b (hold_at p a) _ _ t.answer in
+    let made = s.answered ∙ ap (λ (o : Outcome). o.answer) s.rule in
     record {
-      answer = s.answered ∙ ap (λ (o : Outcome). o.answer) s.rule;
+      answer = made;
       processors = t.processors ∙ ap (λ (o : Outcome). o.processors) s.rule;
       lines = t.lines ∙ ap (λ (o : Outcome). o.lines) s.rule;
       locks = t.locks ∙ ap (λ (o : Outcome). o.locks) s.rule;
@@ -23,6 +26,8 @@ returns-in-NotHeld g c =
       geometry = t.geometry;
       kept = t.kept;
       commands = t.commands ∙ ap (left_along m (locked m p a b)) s.calls;
+      law = law_along c.args.cluster.now.geometry b (bumping m p a b);
+      raised = raised c.args.cluster.now.geometry p a b _ made s.bumped;
       bumped = s.bumped;
     }
 
@@ -43,8 +48,9 @@ returns-in-Ended g c =
     let had = held (hold_at p a) hold done _ t.answer in
     let then = goes m p a b n d hold done (ap (λ k. k.measures) t.geometry) t.commands had.0 had.1 in
     let answered = ended _ _ _ r.answer in
+    let made = answered ∙ ap (λ (o : Outcome). o.answer) then.rule in
     record {
-      answer = answered ∙ ap (λ (o : Outcome). o.answer) then.rule;
+      answer = made;
       processors = r.processors ∙ ap (λ (o : Outcome). o.processors) then.rule;
       lines = r.lines ∙ ap (λ (o : Outcome). o.lines) then.rule;
       locks = r.locks ∙ ap (λ (o : Outcome). o.locks) then.rule;
@@ -52,6 +58,8 @@ returns-in-Ended g c =
       geometry = r.geometry ∙ t.geometry;
       kept = r.kept ∙ t.kept;
       commands = r.commands ∙ then.calls;
+      law = law_along cluster.geometry b (bumping m p a b);
+      raised = raised cluster.geometry p a b _ made (then.bumped _ answered);
       bumped = then.bumped _ answered;
     }
 
@@ -72,8 +80,9 @@ returns-in-Back g c =
     let had = held (hold_at p a) hold done _ t.answer in
     let then = goes m p a b n d hold done (ap (λ k. k.measures) t.geometry) t.commands had.0 had.1 in
     let answered = back _ _ _ _ r.answer in
+    let made = answered ∙ ap (λ (o : Outcome). o.answer) then.rule in
     record {
-      answer = answered ∙ ap (λ (o : Outcome). o.answer) then.rule;
+      answer = made;
       processors = r.processors ∙ ap (λ (o : Outcome). o.processors) then.rule;
       lines = r.lines ∙ ap (λ (o : Outcome). o.lines) then.rule;
       locks = r.locks ∙ ap (λ (o : Outcome). o.locks) then.rule;
@@ -81,5 +90,7 @@ returns-in-Back g c =
       geometry = r.geometry ∙ t.geometry;
       kept = r.kept ∙ t.kept;
       commands = r.commands ∙ then.calls;
+      law = law_along cluster.geometry b (bumping m p a b);
+      raised = raised cluster.geometry p a b _ made (then.bumped _ answered);
       bumped = then.bumped _ answered;
     }
