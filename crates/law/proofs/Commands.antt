@@ -29,13 +29,14 @@ use Rattle.cluster.specs.Ways.{taken_way}
 use Rattle.law.specs.Law.{OnDone, owner, reads}
 use Rattle.law.specs.Ledger.{Ledger, block_of, command_fed, done_by}
 use Rattle.law.proofs.Cells.{acts_reads, acts_unlock, unlock_quiet}
+use Rattle.law.proofs.Copied.{copy_from, modified_valid}
 use Rattle.law.proofs.Doing.{Done, taken_with}
 use Rattle.law.proofs.Hits as hits
 use Rattle.law.proofs.Holds.{done_holds}
 use Rattle.law.proofs.Invariant.{at_in, copy, Coherent, Homed, HolderAlone}
 use Rattle.law.proofs.Leaving.{Truth, by_kind}
 use Rattle.law.proofs.Misses as misses
-use Rattle.law.proofs.Moving.{Moved, before, same_after, homed_after, modified_valid, copy_from}
+use Rattle.law.proofs.Moving.{Moved, before, same_after, homed_after}
 use Rattle.law.proofs.Owning.{Only}
 use Rattle.law.proofs.Placing.{length_seen}
 use Rattle.law.proofs.Replacing.{homed_replaced, holder_replaced, swapped, given_back}

@@ -14,8 +14,9 @@ use Rattle.upkeep.specs.declared.drain.Drained.{Drained}
 use Rattle.upkeep.specs.Counting.{lines_fit}
 use Rattle.upkeep.specs.Draining.{Drain, DrainOutcome, behind, written_back, memory_back, unless_stopped, drain_from, costed, drain_rule}
 use Rattle.law.specs.Ledger.{Ledger, block_of, word_at}
+use Rattle.law.proofs.Copied.{copy_valid, copy_from, modified_valid}
 use Rattle.law.proofs.Invariant.{at_in, Coherent, Homed, Tied, HolderAlone}
-use Rattle.law.proofs.Replacing.{Fewer, copy_valid, homed_fewer, holder_fewer, without, given_back, replaced, granted_write, modified_valid, own_copy}
+use Rattle.law.proofs.Replacing.{Fewer, homed_fewer, holder_fewer, without, given_back, replaced, granted_write}
 
 abbrev is_finished : {X : Type 0} → Result X Refusal → Bool
 is_finished (Ok x) = true
@@ -189,7 +190,7 @@ module _ (truth : ℕ → List ℕ) where
 
     pub drained_memory : Coherent (at_in lines) mem.words truth → (n : ℕ) → drain.answer ≡ Ok n → (block : ℕ) → drain.memory.words block ≡ truth block
     drained_memory c n h block = (drained_coherent c).clean block
-        (λ i held. absurd (false≢true (sym (drained_blank blocks lines mem n h i) ∙ copy_valid (at_in drain.lines) block i held)))
+        (λ i held. absurd (false≢true (sym (drained_blank blocks lines mem n h i) ∙ copy_valid block (at_in drain.lines i) held)))
 
 -- each valid line has four words
 FourEach : List Line → Type 0
@@ -265,7 +266,7 @@ module _ (m : Measures) (lines : List Line) (mem : Mem) where
   rule_four truth c four all =
       by_way (λ ls me. (b : ℕ) → length (me.words b) ≡ 4)
       (drained_four 0 lines mem
-      (λ i v. ap length (c.agree (at_in lines i).block i (own_copy (at_in lines i) (at_in lines i).block v refl)) ∙ four (at_in lines i).block) all) all
+      (λ i v. ap length (c.agree (at_in lines i).block i (copy_from (at_in lines i).block (at_in lines i) v refl)) ∙ four (at_in lines i).block) all) all
 
   pub rule_memory : (truth : ℕ → List ℕ) → Coherent (at_in lines) mem.words truth → (d : Drained) → (drain_rule m lines mem).answer ≡ Ok d
       → (block : ℕ) → (drain_rule m lines mem).memory.words block ≡ truth block

@@ -23,10 +23,11 @@ use Rattle.cluster.specs.Rule.{Outcome}
 use Rattle.cluster.specs.Settling.{takes_lock}
 use Rattle.cluster.specs.Ways.{taken_way}
 use Rattle.law.specs.Law.{exclusive}
+use Rattle.law.proofs.Copied.{copy_valid, copy_block}
 use Rattle.law.proofs.Invariant.{at_in, Coherent, Homed}
 use Rattle.law.proofs.Cells.{hit, HitCell, Hit, keeps, owns, empties, acts_drops, acts_writes, acts_fresh, acts_locks, sole, writes, drops, unwritten}
 use Rattle.law.proofs.Leaving.{own_line, Kind, left_em, left_i, kept}
-use Rattle.law.proofs.Moving.{Moved, copy_valid, copy_block, in_state_valid, valid_in_state}
+use Rattle.law.proofs.Moving.{Moved, in_state_valid, valid_in_state}
 use Rattle.law.proofs.Owning.{Only, only_cleared, only_exclusive}
 use Rattle.law.proofs.Places.{FoundAt, found_at}
 use Rattle.law.proofs.Placing.{placed_at, hit_moved}

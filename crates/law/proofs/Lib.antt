@@ -1,3 +1,4 @@
+pub mod Copied
 pub mod Invariant
 pub mod Words
 pub mod Moving

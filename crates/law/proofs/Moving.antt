@@ -14,34 +14,13 @@ use Rattle.protocol.specs.Lines.{blank_line, in_state}
 use Rattle.protocol.specs.StateTable.{snooped}
 use Rattle.cluster.specs.Copies.{holds_block}
 use Rattle.law.specs.Law.{exclusive, owner}
+use Rattle.law.proofs.Copied.{copy_valid, copy_block, copy_from}
 use Rattle.law.proofs.Invariant.{copy, Coherent, Home, Homed}
 
 -- what a copy of the block becomes where the bus command is heard
 abbrev pub heard : Option BusCommand → Line → Line
 heard None line = line
 heard (Some bus) line = in_state line (snooped bus line.state)
-
--- a copy is valid, and its number is the block
-pub copy_valid : (block : ℕ) (line : Line) → holds_block block line ≡ true → valid line.state ≡ true
-copy_valid block line h = (and_parts _ _ (and_parts _ _ h).0).0
-
-pub copy_block : (block : ℕ) (line : Line) → holds_block block line ≡ true → line.block ≡ block
-copy_block block line h =
-    let part = and_parts (valid line.state && leb block line.block) (leb line.block block) h in
-    let to : leb line.block block ≡ true = part.1 in
-    let from : leb block line.block ≡ true = (and_parts (valid line.state) (leb block line.block) part.0).1 in
-    grind (arith, nat_tests)
-
-pub copy_from : (block : ℕ) (line : Line) → valid line.state ≡ true → line.block ≡ block → holds_block block line ≡ true
-copy_from block line h e = rw h (grind (arith, nat_tests, e))
-
--- a modified line is valid, and an exclusive one too
-pub modified_valid : (s : State) → modified s ≡ true → valid s ≡ true
-modified_valid I h = absurd (cc)
-modified_valid S h = refl
-modified_valid SM h = refl
-modified_valid EC h = refl
-modified_valid EM h = refl
 
 snooped_valid : (bus : BusCommand) (s : State) → valid (snooped bus s) ≡ true → valid s ≡ true
 snooped_valid F I h = h

@@ -15,16 +15,9 @@ use Rattle.protocol.specs.Places.{line_count, window_start}
 use Rattle.protocol.proofs.Finding.{first_from, Lowest, lowest_tells}
 use Rattle.cluster.specs.Copies.{holds_block, line_of, other_copy, supplier_of}
 use Rattle.law.specs.Law.{owner}
+use Rattle.law.proofs.Copied.{copy_valid, copy_block}
 use Rattle.law.proofs.Invariant.{at_in, copy, Home, Homed}
 use Rattle.law.proofs.Windows.{first_at, length-window}
-
--- what a copy tells of its line
-pub copy_tells : (block : ℕ) (line : Line) → holds_block block line ≡ true → (valid line.state ≡ true) × (line.block ≡ block)
-copy_tells block line h = by_valid (valid line.state) h
-  where
-    by_valid : (v : Bool) → (v && leb block line.block && leb line.block block) ≡ true → (v ≡ true) × (line.block ≡ block)
-    by_valid true h = (refl, grind (arith, nat_tests))
-    by_valid false h = absurd (cc)
 
 pub at_window : {X : Type 0} (xs : List X) (s n j : ℕ) (d : X) → j < n → get_or (window_of s n xs) j d ≡ get_or xs (s + j) d
 at_window xs s n j d low = get_or-take n (drop s xs) j d low ∙ get_or-drop s xs j d
@@ -105,8 +98,7 @@ module _ (m : Measures) (some_columns : 0 < m.columns) where
     module _ (homed : Homed m (at_in lines)) where
       -- a copy stands in its block's window in its owner's cache
       pub copy_home : (block i : ℕ) → copy (at_in lines) block i → Home m block i
-      copy_home block i h =
-          let tells = copy_tells block (at_in lines i) h in subst (λ b. Home m b i) tells.1 (homed.home i tells.0)
+      copy_home block i h = subst (λ b. Home m b i) (copy_block block (at_in lines i) h) (homed.home i (copy_valid block (at_in lines i) h))
 
       pub found_at : (p block i : ℕ) → p < m.processors → line_of m lines p block ≡ Some i → FoundAt m lines p block i
       found_at p block i listed e =

@@ -1,6 +1,6 @@
 -- What a bus command does to the line at each place.
 use Rattle.std.proofs.Common.{◌≡◌, ℕ, zero, suc, ◌+◌, ◌<◌, ◌≤◌, Bool, true, false, cond, not, ◌&&◌, ◌⊎◌, eqb, leb, List, length, set, Some, None, Option, sym, refl, ap, subst, ◌∙◌, inl, inr, arith, length-set}
-use Rattle.std.proofs.lemmas.Bool.{eq-eqb, eqb-true}
+use Rattle.std.proofs.lemmas.Bool.{eq-eqb, eqb-true, and_parts}
 use Rattle.std.proofs.lemmas.Bool.Decides.{eqb_tells, leb_tells, nat_tests}
 use Rattle.std.proofs.lemmas.List.{get_or-set_same, get_or-set_other}
 use Rattle.protocol.specs.declared.command.BusCommand.{BusCommand}
@@ -16,15 +16,9 @@ use Rattle.protocol.specs.StateTable.{snooped}
 use Rattle.cluster.specs.Copies.{holds_block, line_of}
 use Rattle.cluster.specs.Snooping.{snooped_at, cache_snooped, other_snooped, snooped_from, others_snooped}
 use Rattle.law.specs.Law.{owner}
+use Rattle.law.proofs.Copied.{copy_valid, copy_block, copy_from}
 use Rattle.law.proofs.Invariant.{at_in, copy, Home, Homed}
-use Rattle.law.proofs.Places.{copy_tells, FoundAt, copy_home, found_at, found_none, window_inside_table}
-
-pub copy_made : (block : ℕ) (line : Line) → valid line.state ≡ true → line.block ≡ block → holds_block block line ≡ true
-copy_made block line v b = rw v (grind (arith, nat_tests))
-
-pub both_tell : (a b : Bool) → (a && b) ≡ true → (a ≡ true) × (b ≡ true)
-both_tell true b h = (refl, h)
-both_tell false b h = absurd (cc)
+use Rattle.law.proofs.Places.{FoundAt, copy_home, found_at, found_none, window_inside_table}
 
 no_cond : {X : Type 0} (b : Bool) (x y : X) → (b ≡ true → ⊥) → cond b x y ≡ y
 no_cond true x y never = absurd (never refl)
@@ -62,9 +56,8 @@ struck_kept bus line h = let left = in_state_valid line (snooped bus line.state)
 module _ (m : Measures) (at left : ℕ → Line) (kept : (i : ℕ) → BlockKept (at i) (left i)) where
   pub copy_was : (block i : ℕ) → copy left block i → copy at block i
   copy_was block i h =
-      let tells = copy_tells block (left i) h in
-      let was = kept i tells.0 in
-      copy_made block (at i) was.0 (sym was.1 ∙ tells.1)
+      let was = kept i (copy_valid block (left i) h) in
+      copy_from block (at i) was.0 (sym was.1 ∙ copy_block block (left i) h)
 
   pub homed_kept : Homed m at → Homed m left
   homed_kept homed =
@@ -117,7 +110,7 @@ module _ (m : Measures) (some_columns : 0 < m.columns) (bus : BusCommand) (askin
       where
         never : in_cache i ≡ true → ⊥
         never h =
-            let both = both_tell (holds_block block (at_in lines i)) (eqb (owner m i) p) h in
+            let both = and_parts (holds_block block (at_in lines i)) (eqb (owner m i) p) h in
             found_none m some_columns lines fit homed p block listed e i both.0 (eqb-true (owner m i) p both.1)
     one_cache i (Some place) e = by_place (eqb_tells i place)
       where
@@ -135,7 +128,7 @@ module _ (m : Measures) (some_columns : 0 < m.columns) (bus : BusCommand) (askin
 
         never : (i ≡ place → ⊥) → in_cache i ≡ true → ⊥
         never other h =
-            let both = both_tell (holds_block block (at_in lines i)) (eqb (owner m i) p) h in
+            let both = and_parts (holds_block block (at_in lines i)) (eqb (owner m i) p) h in
             other (homed.once block i place both.0 found.copied (eqb-true (owner m i) p both.1 ∙ sym found.owned))
 
         by_place : ((eqb i place ≡ true) × (i ≡ place)) ⊎ ((eqb i place ≡ false) × (i ≡ place → ⊥))
@@ -149,7 +142,7 @@ module _ (m : Measures) (some_columns : 0 < m.columns) (bus : BusCommand) (askin
     after_away i other = by_asking (eqb p asking)
       where
         never : in_cache i ≡ true → ⊥
-        never h = other (eqb-true (owner m i) p (let both = both_tell (holds_block block (at_in lines i)) (eqb (owner m i) p) h in both.1))
+        never h = other (eqb-true (owner m i) p (let both = and_parts (holds_block block (at_in lines i)) (eqb (owner m i) p) h in both.1))
 
         by_asking : (b : Bool) → at_in (cond b lines (cache_snooped m bus block p lines)) i ≡ at_in lines i
         by_asking true = refl
@@ -231,7 +224,7 @@ module _ (m : Measures) (some_columns : 0 < m.columns) (bus : BusCommand) (askin
       where
         never : m.processors ≤ owner m i → (holds_block block (at_in lines i) && not (eqb (owner m i) asking)) ≡ true → ⊥
         never out h =
-            let home = copy_home m some_columns lines fit homed block i (let both = both_tell (holds_block block (at_in lines i)) (not (eqb (owner m i) asking)) h in both.0) in
+            let home = copy_home m some_columns lines fit homed block i (let both = and_parts (holds_block block (at_in lines i)) (not (eqb (owner m i) asking)) h in both.0) in
             let listed = home.listed in
             absurd (omega (arith, out, listed))
 
