@@ -18,7 +18,7 @@ use Rattle.cluster.specs.Doing.{asks_for_block, is_unlock}
 use Rattle.cluster.specs.Refusing.{is_direct_write}
 use Rattle.cluster.specs.Settling.{takes_lock}
 use Rattle.law.specs.Law.{exclusive, reads}
-use Rattle.law.proofs.Moving.{clears}
+use Rattle.law.proofs.Hearing.{clears}
 use Rattle.law.proofs.Words.{purging, fresh}
 
 abbrev every_state : (State → Bool) → Bool

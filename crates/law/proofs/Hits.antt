@@ -24,10 +24,11 @@ use Rattle.cluster.specs.Settling.{takes_lock}
 use Rattle.cluster.specs.Ways.{taken_way}
 use Rattle.law.specs.Law.{exclusive}
 use Rattle.law.proofs.Copied.{copy_valid, copy_block}
+use Rattle.law.proofs.Hearing.{in_valid_state}
 use Rattle.law.proofs.Invariant.{at_in, Coherent, Homed}
 use Rattle.law.proofs.Cells.{hit, HitCell, Hit, keeps, owns, empties, acts_drops, acts_writes, acts_fresh, acts_locks, sole, writes, drops, unwritten}
-use Rattle.law.proofs.Leaving.{own_line, Kind, left_em, left_i, kept}
-use Rattle.law.proofs.Moving.{Moved, in_state_valid, valid_in_state}
+use Rattle.law.proofs.Leaving.{own_line, own_named, Kind, left_em, left_i, kept}
+use Rattle.law.proofs.Moving.{Moved}
 use Rattle.law.proofs.Owning.{Only, only_cleared, only_exclusive}
 use Rattle.law.proofs.Places.{FoundAt, found_at}
 use Rattle.law.proofs.Placing.{placed_at, hit_moved}
@@ -56,11 +57,8 @@ module _ (m : Measures) (some_columns : 0 < m.columns) (some_ways : 0 < m.ways) 
   abbrev pub own : Line
   own = own_line q.command q.address d.supply.words left
 
-  pub own_named : valid own.state ≡ true → own.block ≡ block
-  own_named v =
-      ap (λ x. x.block)
-      (in_state_valid (record { state = left; block = block; words = words_left q.command q.address d.supply.words }) left
-      (valid_in_state (record { state = left; block = block; words = words_left q.command q.address d.supply.words }) left v))
+  pub named : valid own.state ≡ true → own.block ≡ block
+  named v = own_named q.command q.address d.supply.words left v
 
   abbrev pub after : List Line
   after = placed (own_place (line_of m lines q.processor block) (taken_with m ps lines locks mem q d.effect)) own (bus_seen m bus q.processor block lines)
@@ -68,10 +66,10 @@ module _ (m : Measures) (some_columns : 0 < m.columns) (some_ways : 0 < m.ways) 
   -- in the own cache
   module _ (k : ℕ) (e : line_of m lines q.processor block ≡ Some k) where
     abbrev pub hit_at : ℕ → Line
-    hit_at = placed_at m some_columns lines fit homed q.processor block d.known bus k own own_named
+    hit_at = placed_at m some_columns lines fit homed q.processor block d.known bus k own named
 
     pub moved : Moved m (at_in lines) hit_at block k q.processor bus own
-    moved = hit_moved m some_columns lines fit homed q.processor block d.known bus k own own_named e
+    moved = hit_moved m some_columns lines fit homed q.processor block d.known bus k own named e
 
     at_place : FoundAt m lines q.processor block k
     at_place = found_at m some_columns lines fit homed q.processor block k d.known e
@@ -138,15 +136,15 @@ module _ (m : Measures) (some_columns : 0 < m.columns) (some_ways : 0 < m.ways) 
             left_found : left ≡ (at_in lines k).state
             left_found = hit_left ∙ same ∙ found_is
 
-            named : block ≡ (at_in lines k).block
-            named = sym (copy_block block (at_in lines k) at_place.copied)
+            same_block : block ≡ (at_in lines k).block
+            same_block = sym (copy_block block (at_in lines k) at_place.copied)
 
             kept_words : words_left q.command q.address d.supply.words ≡ (at_in lines k).words
             kept_words = same_words w ∙ ap (λ s. s.words) supply_is
 
             stays : own ≡ at_in lines k
             stays =
-                (λ i. in_state (record { state = left_found i; block = named i; words = kept_words i }) (left_found i))
-                ∙ in_state_valid (at_in lines k) (at_in lines k).state (copy_valid block (at_in lines k) at_place.copied)
+                (λ i. in_state (record { state = left_found i; block = same_block i; words = kept_words i }) (left_found i))
+                ∙ in_valid_state (at_in lines k) (at_in lines k).state (copy_valid block (at_in lines k) at_place.copied)
         by_hit (owns s em dr) = left_em (sole_only s) (hit_left ∙ em) (purging_is false dr)
         by_hit (empties s i dr) = left_i (sole_only s) (hit_left ∙ i) (purging_is true dr)

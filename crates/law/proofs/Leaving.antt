@@ -13,8 +13,9 @@ use Rattle.protocol.specs.Acting.{words_left}
 use Rattle.protocol.specs.Entries.{valid, modified}
 use Rattle.protocol.specs.Lines.{blank_line, in_state}
 use Rattle.law.specs.Ledger.{Ledger, block_of, done_by}
+use Rattle.law.proofs.Hearing.{in_valid_state, block_in_state}
 use Rattle.law.proofs.Invariant.{copy, Coherent, Tied}
-use Rattle.law.proofs.Moving.{Moved, in_state_valid}
+use Rattle.law.proofs.Moving.{Moved}
 use Rattle.law.proofs.Owning.{Only, owns, shares, unmoved}
 use Rattle.law.proofs.Words.{purging, fresh, with_words, tied_words, tied_purged}
 
@@ -26,6 +27,9 @@ pub record Truth (after : ℕ → Line) (mem : ℕ → List ℕ) (l : Ledger) : 
 
 abbrev pub own_line : Command → ℕ → List ℕ → State → Line
 own_line c address ws left = in_state (record { state = left; block = block_of address; words = words_left c address ws }) left
+
+pub own_named : (c : Command) (address : ℕ) (ws : List ℕ) (left : State) → valid (own_line c address ws left).state ≡ true → (own_line c address ws left).block ≡ block_of address
+own_named c address ws left v = block_in_state (record { state = left; block = block_of address; words = words_left c address ws }) left v
 
 module _ (m : Measures) (at after : ℕ → Line) (k asking : ℕ) (bus : Option BusCommand) (c : Command) (address : ℕ) (ws : List ℕ) (left : State)
     (moved : Moved m at after (block_of address) k asking bus (own_line c address ws left)) where
@@ -46,10 +50,10 @@ module _ (m : Measures) (at after : ℕ → Line) (k asking : ℕ) (bus : Option
       kept : bus ≡ None → own ≡ at k → words_left c address ws ≡ ws → purging c address ≡ false → fresh c address ≡ false → Kind
 
     own_words : (s : State) → left ≡ s → valid s ≡ true → own.words ≡ words_left c address ws
-    own_words s e v = ap (λ x. x.words) (in_state_valid (record { state = left; block = block; words = words_left c address ws }) left (ap valid e ∙ v))
+    own_words s e v = ap (λ x. x.words) (in_valid_state (record { state = left; block = block; words = words_left c address ws }) left (ap valid e ∙ v))
 
     own_state : (s : State) → left ≡ s → valid s ≡ true → own.state ≡ s
-    own_state s e v = ap (λ x. x.state) (in_state_valid (record { state = left; block = block; words = words_left c address ws }) left (ap valid e ∙ v)) ∙ e
+    own_state s e v = ap (λ x. x.state) (in_valid_state (record { state = left; block = block; words = words_left c address ws }) left (ap valid e ∙ v)) ∙ e
 
     own_blank : left ≡ I → own ≡ blank_line
     own_blank e = ap (λ s. in_state (record { state = s; block = block; words = words_left c address ws }) s) e

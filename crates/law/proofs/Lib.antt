@@ -1,4 +1,5 @@
 pub mod Copied
+pub mod Hearing
 pub mod Invariant
 pub mod Words
 pub mod Moving

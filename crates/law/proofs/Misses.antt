@@ -31,10 +31,11 @@ use Rattle.cluster.specs.Refusing.{is_direct_write}
 use Rattle.cluster.specs.Rule.{Outcome}
 use Rattle.cluster.specs.Settling.{takes_lock}
 use Rattle.cluster.specs.Ways.{taken_way}
+use Rattle.law.proofs.Hearing.{clears}
 use Rattle.law.proofs.Invariant.{at_in, copy, Coherent, Homed}
 use Rattle.law.proofs.Cells.{miss, MissCell, Miss, reads_shared, takes, purges, makes, acts_drops, acts_writes, acts_fresh, acts_locks, writes, drops, unwritten}
-use Rattle.law.proofs.Leaving.{own_line, Kind, left_em, left_ec, left_i, left_s}
-use Rattle.law.proofs.Moving.{Moved, clears, in_state_valid, valid_in_state}
+use Rattle.law.proofs.Leaving.{own_line, own_named, Kind, left_em, left_ec, left_i, left_s}
+use Rattle.law.proofs.Moving.{Moved}
 use Rattle.law.proofs.Owning.{Only, only_cleared, only_copy}
 use Rattle.law.proofs.Places.{found_at, found_none, supplier_some, supplier_none}
 use Rattle.law.proofs.Placing.{placed_at, miss_moved}
@@ -65,11 +66,8 @@ module _ (m : Measures) (some_columns : 0 < m.columns) (some_ways : 0 < m.ways) 
   abbrev pub own : Line
   own = own_line q.command q.address d.supply.words left
 
-  pub own_named : valid own.state ≡ true → own.block ≡ block
-  own_named v =
-      ap (λ x. x.block)
-      (in_state_valid (record { state = left; block = block; words = words_left q.command q.address d.supply.words }) left
-      (valid_in_state (record { state = left; block = block; words = words_left q.command q.address d.supply.words }) left v))
+  pub named : valid own.state ≡ true → own.block ≡ block
+  named v = own_named q.command q.address d.supply.words left v
 
   found_is : found m ps lines locks mem q ≡ I
   found_is = ap (λ p. (line_at lines p).state) e
@@ -131,11 +129,11 @@ module _ (m : Measures) (some_columns : 0 < m.columns) (some_ways : 0 < m.ways) 
     base = without (at_in lines) k
 
     abbrev pub miss_at : ℕ → Line
-    miss_at = placed_at m some_columns lines fit homed q.processor block d.known bus k own own_named
+    miss_at = placed_at m some_columns lines fit homed q.processor block d.known bus k own named
 
     pub moved : Moved m base miss_at block k q.processor bus own
     moved =
-        miss_moved m some_columns lines fit homed q.processor block d.known bus k own own_named
+        miss_moved m some_columns lines fit homed q.processor block d.known bus k own named
         (way_home m some_columns some_ways lines fit q.processor block (get_or ps q.processor resting).turn d.known) e
 
     cell : MissCell acting d.effect

@@ -1,5 +1,4 @@
--- The lines before and after a done command, by their places: one place gets the command's own copy, other copies of the
--- block hear the bus command, all else stays.
+-- The lines before and after a done command, by their places.
 use Rattle.std.proofs.Common.{◌≡◌, ℕ, Bool, true, false, cond, ◌&&◌, eqb, leb, List, Some, None, Option, sym, refl, ap, ◌∙◌, subst, inl, inr, arith}
 use Rattle.std.proofs.lemmas.Bool.{and_parts, false≢true}
 use Rattle.std.proofs.lemmas.Bool.Decides.{eqb_tells, nat_tests}
@@ -15,89 +14,10 @@ use Rattle.protocol.specs.StateTable.{snooped}
 use Rattle.cluster.specs.Copies.{holds_block}
 use Rattle.law.specs.Law.{exclusive, owner}
 use Rattle.law.proofs.Copied.{copy_valid, copy_block, copy_from}
+use Rattle.law.proofs.Hearing.{heard, heard_copy}
 use Rattle.law.proofs.Invariant.{copy, Coherent, Home, Homed}
 
--- what a copy of the block becomes where the bus command is heard
-abbrev pub heard : Option BusCommand → Line → Line
-heard None line = line
-heard (Some bus) line = in_state line (snooped bus line.state)
-
-snooped_valid : (bus : BusCommand) (s : State) → valid (snooped bus s) ≡ true → valid s ≡ true
-snooped_valid F I h = h
-snooped_valid FI I h = h
-snooped_valid bus_i I h = h
-snooped_valid bus S h = refl
-snooped_valid bus SM h = refl
-snooped_valid bus EC h = refl
-snooped_valid bus EM h = refl
-
-pub valid_in_state : (line : Line) (s : State) → valid (in_state line s).state ≡ true → valid s ≡ true
-valid_in_state line s h = by_valid (valid s) refl h
-  where
-    by_valid : (b : Bool) → valid s ≡ b → valid (cond b (record { state = s; block = line.block; words = line.words }) blank_line).state ≡ true → valid s ≡ true
-    by_valid true e h = e
-    by_valid false e h = absurd (cc)
-
-pub in_state_valid : (line : Line) (s : State) → valid s ≡ true → in_state line s ≡ record { state = s; block = line.block; words = line.words }
-in_state_valid line s h = rw h refl
-
-pub heard_copy : (bus : Option BusCommand) (line : Line) (b : ℕ) → holds_block b (heard bus line) ≡ true → holds_block b line ≡ true
-heard_copy None line b h = h
-heard_copy (Some bus) line b h =
-    let now = valid_in_state line (snooped bus line.state) (copy_valid b (heard (Some bus) line) h) in
-    let same = in_state_valid line (snooped bus line.state) now in
-    copy_from b line (snooped_valid bus line.state now) (ap (λ x. x.block) (sym same) ∙ copy_block b (heard (Some bus) line) h)
-
--- F keeps what is valid and modified, and leaves nothing exclusive
-pub f_valid : (s : State) → valid (snooped F s) ≡ valid s
-f_valid I = refl
-f_valid S = refl
-f_valid SM = refl
-f_valid EC = refl
-f_valid EM = refl
-
-pub f_modified : (s : State) → modified (snooped F s) ≡ modified s
-f_modified I = refl
-f_modified S = refl
-f_modified SM = refl
-f_modified EC = refl
-f_modified EM = refl
-
-pub f_shares : (s : State) → exclusive (snooped F s) ≡ false
-f_shares I = refl
-f_shares S = refl
-f_shares SM = refl
-f_shares EC = refl
-f_shares EM = refl
-
-pub heard_f : (line : Line) → valid line.state ≡ true → heard (Some F) line ≡ record { state = snooped F line.state; block = line.block; words = line.words }
-heard_f line h = in_state_valid line (snooped F line.state) (f_valid line.state ∙ h)
-
--- FI and I leave no copy
-abbrev pub clears : Option BusCommand → Bool
-clears None = false
-clears (Some F) = false
-clears (Some FI) = true
-clears (Some bus_i) = true
-
-none_left : (bus : BusCommand) (s : State) → clears (Some bus) ≡ true → valid (snooped bus s) ≡ false
-none_left F s h = absurd (cc)
-none_left FI I h = refl
-none_left FI S h = refl
-none_left FI SM h = refl
-none_left FI EC h = refl
-none_left FI EM h = refl
-none_left bus_i I h = refl
-none_left bus_i S h = refl
-none_left bus_i SM h = refl
-none_left bus_i EC h = refl
-none_left bus_i EM h = refl
-
-pub cleared : (bus : Option BusCommand) (line : Line) (b : ℕ) → clears bus ≡ true → holds_block b (heard bus line) ≡ true → ⊥
-cleared None line b h c = cc
-cleared (Some bus) line b h c =
-    false≢true (sym (none_left bus line.state h) ∙ valid_in_state line (snooped bus line.state) (copy_valid b (heard (Some bus) line) c))
-
+-- one place gets the command's own copy, other copies of the block hear the bus command, all else stays
 pub record Moved (m : Measures) (at after : ℕ → Line) (block k asking : ℕ) (bus : Option BusCommand) (own : Line) : Type 0 where
   pub place : after k ≡ own
   pub named : valid own.state ≡ true → own.block ≡ block

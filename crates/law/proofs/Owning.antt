@@ -12,8 +12,9 @@ use Rattle.protocol.specs.StateTable.{snooped}
 use Rattle.cluster.specs.Copies.{holds_block}
 use Rattle.law.specs.Law.{exclusive}
 use Rattle.law.proofs.Copied.{copy_valid, copy_block, copy_from}
+use Rattle.law.proofs.Hearing.{heard, clears, cleared, heard_f, f_valid, f_modified, f_shares}
 use Rattle.law.proofs.Invariant.{copy, Coherent}
-use Rattle.law.proofs.Moving.{Moved, Other, heard_it, stayed, other, coherent_after, truth_after, clears, cleared, heard, heard_f, f_valid, f_modified, f_shares}
+use Rattle.law.proofs.Moving.{Moved, Other, heard_it, stayed, other, coherent_after, truth_after}
 
 module _ (m : Measures) (at after : ℕ → Line) (block k asking : ℕ) (bus : Option BusCommand) (own : Line) (moved : Moved m at after block k asking bus own) where
   -- a copy of the block that stands elsewhere has heard the bus command

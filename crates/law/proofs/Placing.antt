@@ -13,8 +13,9 @@ use Rattle.cluster.specs.Copies.{holds_block, line_of}
 use Rattle.cluster.specs.Finishing.{bus_seen}
 use Rattle.law.specs.Law.{owner}
 use Rattle.law.proofs.Copied.{copy_block}
+use Rattle.law.proofs.Hearing.{heard}
 use Rattle.law.proofs.Invariant.{at_in, copy, Homed}
-use Rattle.law.proofs.Moving.{Moved, heard}
+use Rattle.law.proofs.Moving.{Moved}
 use Rattle.law.proofs.Places.{found_at, found_none, window_inside_table}
 use Rattle.law.proofs.Replacing.{without, without_fewer, copy_fewer}
 use Rattle.law.proofs.Snooped.{snooped_at_places, length_others_snooped}
