@@ -1,6 +1,6 @@
 -- What the state table's cells leave, by one test over the whole table for hits and one for misses.
 use Rattle.std.proofs.Common.{◌≡◌, ℕ, ◌%◌, Bool, true, false, cond, not, ◌&&◌, ◌||◌, ◌⊎◌, eqb, List, Some, None, Option, sym, refl, ap, ◌∙◌, inl, inr, arith}
-use Rattle.std.proofs.lemmas.Bool.{and_parts, or_cases}
+use Rattle.std.proofs.lemmas.Bool.{and_parts, or_cases, not-true}
 use Rattle.std.proofs.lemmas.Bool.Decides.{nat_tests}
 use Rattle.protocol.specs.declared.command.Action.{Action}
 use Rattle.protocol.specs.declared.command.Action.TheVariants.{R, W, DW, RI, RP, LR, UW, U}
@@ -92,10 +92,6 @@ is_taking None h = absurd (cc)
 is_taking (Some F) h = absurd (cc)
 is_taking (Some FI) h = refl
 is_taking (Some bus_i) h = absurd (cc)
-
-is_not : (b : Bool) → not b ≡ true → b ≡ false
-is_not true h = absurd (cc)
-is_not false h = refl
 
 -- the action writes a word of its block
 abbrev pub writes : Action → Bool
@@ -250,7 +246,7 @@ module _ (a : Action) (e : Effect) where
       let part = and_parts (not (asks_for_block e.bus) && locks_alone a f e) kinds all in
       let first = and_parts (not (asks_for_block e.bus)) (locks_alone a f e) part.0 in
       record {
-        unasked = is_not (asks_for_block e.bus) first.0;
+        unasked = not-true (asks_for_block e.bus) first.0;
         locked_alone = or_not (takes_lock_as a) (sole f e) first.1;
         kind = elim (or_cases (hit_keeps a f e || hit_owns a f e) (hit_empties a f e) part.1) [
           | inl two ↦ elim (or_cases (hit_keeps a f e) (hit_owns a f e) two) [
@@ -258,11 +254,11 @@ module _ (a : Action) (e : Effect) where
                 let p = and_parts (quiet e.bus && same f e.from_memory && not (writes a)) (not (drops a)) t in
                 let r = and_parts (quiet e.bus && same f e.from_memory) (not (writes a)) p.0 in
                 let s = and_parts (quiet e.bus) (same f e.from_memory) r.0 in
-                keeps (is_quiet e.bus s.0) (is_same f e.from_memory s.1) (is_not (writes a) r.1) (is_not (drops a) p.1)
+                keeps (is_quiet e.bus s.0) (is_same f e.from_memory s.1) (not-true (writes a) r.1) (not-true (drops a) p.1)
             | inr t ↦
                 let p = and_parts (sole f e && same EM e.from_memory) (not (drops a)) t in
                 let r = and_parts (sole f e) (same EM e.from_memory) p.0 in
-                owns r.0 (is_same EM e.from_memory r.1) (is_not (drops a) p.1)
+                owns r.0 (is_same EM e.from_memory r.1) (not-true (drops a) p.1)
           ]
           | inr t ↦
               let p = and_parts (sole f e && same I e.from_memory) (drops a) t in
@@ -293,15 +289,15 @@ module _ (a : Action) (e : Effect) where
                   let q = and_parts (fetching e.bus && same S e.from_cache && same EC e.from_memory) (not (writes a)) p.0 in
                   let r = and_parts (fetching e.bus && same S e.from_cache) (same EC e.from_memory) q.0 in
                   let s = and_parts (fetching e.bus) (same S e.from_cache) r.0 in
-                  reads_shared (is_fetching e.bus s.0) (is_same S e.from_cache s.1) (is_same EC e.from_memory r.1) (is_not (writes a) q.1) (is_not (drops a) p.1)
+                  reads_shared (is_fetching e.bus s.0) (is_same S e.from_cache s.1) (is_same EC e.from_memory r.1) (not-true (writes a) q.1) (not-true (drops a) p.1)
               | inr t ↦
                   let p = and_parts (taking e.bus && same EM e.from_cache && (same EM e.from_memory || (same EC e.from_memory && not (writes a)))) (not (drops a)) t in
                   let q = and_parts (taking e.bus && same EM e.from_cache) (same EM e.from_memory || (same EC e.from_memory && not (writes a))) p.0 in
                   let r = and_parts (taking e.bus) (same EM e.from_cache) q.0 in
                   takes (is_taking e.bus r.0) (is_same EM e.from_cache r.1) (elim (or_cases (same EM e.from_memory) (same EC e.from_memory && not (writes a)) q.1) [
                     | inl em ↦ inl (is_same EM e.from_memory em)
-                    | inr ec ↦ let w = and_parts (same EC e.from_memory) (not (writes a)) ec in inr (is_same EC e.from_memory w.0, is_not (writes a) w.1)
-                  ]) (is_not (drops a) p.1)
+                    | inr ec ↦ let w = and_parts (same EC e.from_memory) (not (writes a)) ec in inr (is_same EC e.from_memory w.0, not-true (writes a) w.1)
+                  ]) (not-true (drops a) p.1)
             ]
             | inr t ↦
                 let p = and_parts (taking e.bus && same I e.from_cache && same I e.from_memory) (drops a) t in
@@ -313,7 +309,7 @@ module _ (a : Action) (e : Effect) where
               let p = and_parts (quiet e.bus && is_direct_write a && same EM e.from_memory) (not (drops a)) t in
               let q = and_parts (quiet e.bus && is_direct_write a) (same EM e.from_memory) p.0 in
               let r = and_parts (quiet e.bus) (is_direct_write a) q.0 in
-              makes (is_quiet e.bus r.0) r.1 (is_same EM e.from_memory q.1) (is_not (drops a) p.1)
+              makes (is_quiet e.bus r.0) r.1 (is_same EM e.from_memory q.1) (not-true (drops a) p.1)
         ];
       }
 

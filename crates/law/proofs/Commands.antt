@@ -32,7 +32,7 @@ use Rattle.law.proofs.Cells.{acts_reads, acts_unlock, unlock_quiet}
 use Rattle.law.proofs.Copied.{copy_from, modified_valid}
 use Rattle.law.proofs.Doing.{Done, taken_with}
 use Rattle.law.proofs.Hits as hits
-use Rattle.law.proofs.Holds.{done_holds}
+use Rattle.law.proofs.Holds.{Lock, older, newer, lock_after}
 use Rattle.law.proofs.Invariant.{at_in, copy, Coherent, Homed, HolderAlone}
 use Rattle.law.proofs.Leaving.{Truth, by_kind}
 use Rattle.law.proofs.Misses as misses
@@ -51,42 +51,12 @@ pub record Settled (m : Measures) (lines : List Line) (mem : ℕ → List ℕ) (
   pub holder : HolderAlone m (at_in lines) l
   pub four : (block : ℕ) → length (mem block) ≡ 4
 
--- a lock that the ledger has after a done command was there before, or the command took it
-data Lock (c : Command) (p0 a0 : ℕ) (l : Ledger) (p a : ℕ) : Type 0 where
-  older : l.holds p a ≡ true → Lock c p0 a0 l p a
-  newer : takes_lock c ≡ true → p ≡ p0 → a ≡ a0 → Lock c p0 a0 l p a
-
-lock_of : (c : Command) (p0 a0 : ℕ) (b : Bool) (l : Ledger) (p a : ℕ) → (done_by p0 a0 b c l).holds p a ≡ true → Lock c p0 a0 l p a
-lock_of c p0 a0 b l p a h = by_takes (takes_lock c) (releases_lock c) refl (sym (done_holds l c p0 a0 b p a) ∙ h)
-  where
-    by_same : (s : Bool) → cond s false (l.holds p a) ≡ true → l.holds p a ≡ true
-    by_same true x = absurd (cc)
-    by_same false x = x
-
-    same : (i j : ℕ) → eqb i j ≡ true → i ≡ j
-    same i j h = elim (eqb_tells i j) [
-      | inl is ↦ is.1
-      | inr other ↦ absurd (false≢true (sym other.0 ∙ h))
-    ]
-
-    by_new : takes_lock c ≡ true → (s t : Bool) → eqb p p0 ≡ s → eqb a a0 ≡ t → cond (s && t) true (l.holds p a) ≡ true → Lock c p0 a0 l p a
-    by_new e true true es et x = newer e (same p p0 es) (same a a0 et)
-    by_new e true false es et x = older x
-    by_new e false t es et x = older x
-
-    by_takes : (t r : Bool) → takes_lock c ≡ t
-        → cond t (cond (eqb p p0 && eqb a a0) true (l.holds p a)) (cond r (cond (eqb p p0 && eqb a a0) false (l.holds p a)) (l.holds p a)) ≡ true
-        → Lock c p0 a0 l p a
-    by_takes true r e x = by_new e (eqb p p0) (eqb a a0) refl refl x
-    by_takes false true e x = older (by_same (eqb p p0 && eqb a a0) x)
-    by_takes false false e x = older x
-
 -- only the holder has copies, after a done command too
 module _ (m : Measures) (at after : ℕ → Line) (block k asking : ℕ) (bus : Option BusCommand) (own : Line) (moved : Moved m at after block k asking bus own) where
   holder_after : (l : Ledger) → HolderAlone m at l → ((p a : ℕ) → l.holds p a ≡ true → block_of a ≡ block → p ≡ asking)
       → (c : Command) (a0 : ℕ) (b : Bool) → block_of a0 ≡ block → (takes_lock c ≡ true → Only m at after block k asking bus own moved)
       → HolderAlone m after (done_by asking a0 b c l)
-  holder_after l alone mine c a0 b at_block only p a i h ci = by_lock (lock_of c asking a0 b l p a h)
+  holder_after l alone mine c a0 b at_block only p a i h ci = by_lock (lock_after c asking a0 b l p a h)
     where
       by_lock : Lock c asking a0 l p a → owner m i ≡ p
       by_lock (newer t p_is a_is) =
@@ -196,7 +166,7 @@ module _ (m : Measures) (some_columns : 0 < m.columns) (some_ways : 0 < m.ways) 
           fit = was.fit;
           homed = was.homed;
           truth = record { words = truth; coherent = coherent; tied = tied_same truth l (done_by q.processor q.address ul U l) was.truth.tied (done_words U q.processor q.address ul l) };
-          holder = λ p a i h ci. by_lock p a i ci (lock_of U q.processor q.address ul l p a h);
+          holder = λ p a i h ci. by_lock p a i ci (lock_after U q.processor q.address ul l p a h);
           four = was.four;
         }))
       where

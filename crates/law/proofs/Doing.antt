@@ -1,6 +1,6 @@
 -- A done command, told by the cell that it met.
 use Rattle.std.proofs.Common.{◌≡◌, ℕ, ◌<◌, false, not, ◌&&◌, ◌||◌, List, is_some, Some, Ok, Err, Option, Result, ap, ◌∙◌, subst, arith}
-use Rattle.std.proofs.lemmas.Bool.Decides.{nat_tests}
+use Rattle.std.proofs.lemmas.Bool.{leb-false}
 use Rattle.protocol.specs.declared.command.Request.{Request}
 use Rattle.protocol.specs.declared.line.Line.{Line}
 use Rattle.protocol.specs.declared.lock.LockEntry.{LockEntry}
@@ -45,7 +45,7 @@ module _ (m : Measures) (ps : List Processor) (lines : List Line) (locks : List 
       let facts = f.facts in
       record {
         effect = facts.effect;
-        known = (let h = facts.known in grind (arith, nat_tests, h));
+        known = leb-false m.processors q.processor facts.known;
         cell = facts.cell;
         alone = facts.alone;
         supply = f.supply;

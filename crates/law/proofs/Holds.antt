@@ -2,7 +2,7 @@
 use Rattle.std.proofs.Common.{◌≡◌, ℕ, suc, ◌+◌, ◌*◌, ◌%◌, ◌<◌, ◌≤◌, Bool, true, false, cond, not, ◌&&◌, eqb, ltb, leb, List, length, get_or, set, is_some, Some, None, Option, sym, refl, ap, ◌∙◌, inl, inr, mul-le-mul_right, suc-mul, arith}
 use Rattle.std.specs.List.{count_by}
 use Rattle.std.proofs.lemmas.List.Sums.{sum_by-set}
-use Rattle.std.proofs.lemmas.Bool.{cond_both}
+use Rattle.std.proofs.lemmas.Bool.{cond_both, eqb-true, leb-false}
 use Rattle.std.proofs.lemmas.Bool.Decides.{eqb_tells, nat_tests}
 use Rattle.protocol.specs.declared.command.Command.{Command}
 use Rattle.protocol.specs.declared.command.Command.TheVariants.{R, W, DW, RI, RP, RB, LR, UW, U}
@@ -70,6 +70,29 @@ done_holds l RB processor address b p a = cond_both (eqb (address % 4) 3) _ _ (�
 done_holds l LR processor address b p a = refl
 done_holds l (UW word) processor address b p a = cond_both b _ _ (λ (k : Ledger). k.holds p a ≡ changed processor address false l p a) (λ e. refl) (λ e. refl)
 done_holds l U processor address b p a = cond_both b _ _ (λ (k : Ledger). k.holds p a ≡ changed processor address false l p a) (λ e. refl) (λ e. refl)
+
+-- a lock that the ledger has after a done command was there before, or the command took it
+pub data Lock (c : Command) (p0 a0 : ℕ) (l : Ledger) (p a : ℕ) : Type 0 where
+  older : l.holds p a ≡ true → Lock c p0 a0 l p a
+  newer : takes_lock c ≡ true → p ≡ p0 → a ≡ a0 → Lock c p0 a0 l p a
+
+pub lock_after : (c : Command) (p0 a0 : ℕ) (b : Bool) (l : Ledger) (p a : ℕ) → (done_by p0 a0 b c l).holds p a ≡ true → Lock c p0 a0 l p a
+lock_after c p0 a0 b l p a h = by_takes (takes_lock c) (releases_lock c) refl (sym (done_holds l c p0 a0 b p a) ∙ h)
+  where
+    by_same : (s : Bool) → cond s false (l.holds p a) ≡ true → l.holds p a ≡ true
+    by_same true x = absurd (cc)
+    by_same false x = x
+
+    by_new : takes_lock c ≡ true → (s t : Bool) → eqb p p0 ≡ s → eqb a a0 ≡ t → cond (s && t) true (l.holds p a) ≡ true → Lock c p0 a0 l p a
+    by_new e true true es et x = newer e (eqb-true p p0 es) (eqb-true a a0 et)
+    by_new e true false es et x = older x
+    by_new e false t es et x = older x
+
+    by_takes : (t r : Bool) → takes_lock c ≡ t
+        → cond t (changed p0 a0 true l p a) (cond r (changed p0 a0 false l p a) (l.holds p a)) ≡ true → Lock c p0 a0 l p a
+    by_takes true r e x = by_new e (eqb p p0) (eqb a a0) refl refl x
+    by_takes false true e x = older (by_same (eqb p p0 && eqb a a0) x)
+    by_takes false false e x = older x
 
 module _ (m : Measures) (locks : List LockEntry) (fit : length locks ≡ lock_count m) where
   abbrev pub held_in : List LockEntry → ℕ → ℕ → ℕ
@@ -233,9 +256,6 @@ module _ (m : Measures) (locks : List LockEntry) (fit : length locks ≡ lock_co
 
 module _ (m : Measures) (ps : List Processor) (lines : List Line) (locks : List LockEntry) (mem : Mem) (q : Request) (l : Ledger)
     (fit : length locks ≡ lock_count m) (agree : (p : ℕ) → p < m.processors → (a : ℕ) → held_in m locks fit locks p a ≡ cond (l.holds p a) 1 0) where
-  low_of : leb m.processors q.processor ≡ false → q.processor < m.processors
-  low_of h = grind (arith, nat_tests)
-
   pub holds_kept : (o : Outcome) → Shape m ps lines locks mem q o → (p : ℕ) → p < m.processors → (a : ℕ)
       → held_in m locks fit o.locks p a ≡ cond ((command_fed q o.answer l).holds p a) 1 0
   holds_kept o (refused e is) p listed a =
@@ -247,6 +267,6 @@ module _ (m : Measures) (ps : List Processor) (lines : List Line) (locks : List 
       let facts = f.facts in
       ap (λ x. held_in m locks fit x.locks p a) f.is
       ∙ ap (λ c. held_in m locks fit (locks_settled c.command c.address locks c.entry) p a) facts.is
-      ∙ settled m locks fit q l (low_of facts.known) agree q.command refl facts.not_held facts.room facts.held p listed a
+      ∙ settled m locks fit q l (leb-false m.processors q.processor facts.known) agree q.command refl facts.not_held facts.room facts.held p listed a
       ∙ ap (λ h. cond h 1 0) (sym (done_holds l q.command q.processor q.address (ul_sent f.case.command locks f.case.entry) p a))
       ∙ ap (λ x. cond ((command_fed q x.answer l).holds p a) 1 0) (sym f.is)

@@ -1,7 +1,7 @@
 -- No two processors hold locks in one block, and WAIT is answered exactly where another holds one.
 use Rattle.std.proofs.Common.{◌≡◌, ℕ, ◌/◌, ◌<◌, Bool, true, false, cond, not, ◌&&◌, ◌||◌, eqb, leb, ◌⊎◌, is_some, Some, None, Option, sym, refl, ap, ◌∙◌, subst, inl, inr, arith}
 use Prim.{tt}
-use Rattle.std.proofs.lemmas.Bool.{false≢true, cond_both, false_from_ne_true}
+use Rattle.std.proofs.lemmas.Bool.{false≢true, cond_both, false_from_ne_true, leb-false}
 use Rattle.std.proofs.lemmas.Bool.Decides.{eqb_tells, nat_tests}
 use Rattle.protocol.specs.declared.command.Action.{Action}
 use Rattle.protocol.specs.declared.command.Action.TheVariants as action
@@ -26,7 +26,7 @@ use Rattle.cluster.specs.Settling.{takes_lock, releases_lock, ul_sent}
 use Rattle.law.specs.Calls.{Board}
 use Rattle.law.specs.Law.{WaitsIf, owner, locks_in, locked_by_other}
 use Rattle.law.specs.Ledger.{Ledger, block_of, command_fed, done_by}
-use Rattle.law.proofs.Holds.{held_after, done_holds}
+use Rattle.law.proofs.Holds.{Lock, older, newer, lock_after}
 use Rattle.law.proofs.Invariant.{at_in, copy, HolderAlone, OneHolder}
 use Rattle.law.proofs.LockLaw.{address_in, block_in, held_is, holder_is}
 use Rattle.law.proofs.Shapes.{Shape, refused, waited, finished, Finished}
@@ -100,31 +100,6 @@ has_it true true e x = refl
 has_it true false e x = absurd (cc)
 has_it false h e x = absurd (cc)
 
--- an address that is held after a done command was held before, or LR took it
-held_was : (l : Ledger) (c : Command) (p0 a0 p a : ℕ) → held_after c p0 a0 l p a ≡ true
-    → (l.holds p a ≡ true) ⊎ ((takes_lock c ≡ true) × (p ≡ p0) × (a ≡ a0))
-held_was l c p0 a0 p a = by_tests (takes_lock c) (releases_lock c) (eqb p p0) (eqb a a0) refl refl refl
-  where
-    equal : (x y : ℕ) → eqb x y ≡ true → x ≡ y
-    equal x y e = elim (eqb_tells x y) [
-      | inl same ↦ same.1
-      | inr other ↦ absurd (false≢true (sym other.0 ∙ e))
-    ]
-
-    by_tests : (t r i j : Bool) → takes_lock c ≡ t → eqb p p0 ≡ i → eqb a a0 ≡ j
-        → cond t (cond (i && j) true (l.holds p a)) (cond r (cond (i && j) false (l.holds p a)) (l.holds p a)) ≡ true
-        → (l.holds p a ≡ true) ⊎ ((takes_lock c ≡ true) × (p ≡ p0) × (a ≡ a0))
-    by_tests true r true true e x y h = inr (e, equal p p0 x, equal a a0 y)
-    by_tests true r true false e x y h = inl h
-    by_tests true r false j e x y h = inl h
-    by_tests false true true true e x y h = absurd (cc)
-    by_tests false true true false e x y h = inl h
-    by_tests false true false j e x y h = inl h
-    by_tests false false i j e x y h = inl h
-
-pub low_of : (m : Measures) (p : ℕ) → leb m.processors p ≡ false → p < m.processors
-low_of m p h = grind (arith, nat_tests)
-
 module _ (m : Measures) (b : Board) (l : Ledger) (k : Kept m b l) (one : OneHolder l) (alone : HolderAlone m (at_in b.lines) l) (listed : HoldersListed m l)
     (own : (q : Request) → q.processor < m.processors → valid (line_at b.lines (line_of m b.lines q.processor (q.address / 4))).state ≡ true
     → (i : ℕ) × copy (at_in b.lines) (q.address / 4) i × (owner m i ≡ q.processor)) (q : Request) where
@@ -145,7 +120,7 @@ module _ (m : Measures) (b : Board) (l : Ledger) (k : Kept m b l) (one : OneHold
         let effect = facts.effect in
         let hit : cond (asks_for_block effect.bus) holder (cond effect.lk holder None) ≡ None = sym (ap lock_hit facts.is) ∙ f.free in
         let cell = subst (λ x. (valid found || (is_direct_write acts || (is_unlock acts || guarded x))) ≡ true) facts.cell (each_cell acts found) in
-        let low = low_of m q.processor facts.known in
+        let low = leb-false m.processors q.processor facts.known in
         by_cell (valid found) (is_direct_write acts) (is_unlock acts) (asks_for_block effect.bus || effect.lk) refl refl refl cell
         (not_elsewhere (is_direct_write acts) (valid found) _ (is_some holder) facts.alone)
         (λ u. sym (held_is m b l k q.processor q.address low)
@@ -165,7 +140,7 @@ module _ (m : Measures) (b : Board) (l : Ledger) (k : Kept m b l) (one : OneHold
     pub no_other_holder : (p a : ℕ) → l.holds p a ≡ true → block_of a ≡ block_of q.address → p ≡ q.processor
     no_other_holder p a h same = elim ways [
       | inl there ↦
-          let (i, stands, mine) = own q (low_of m q.processor f.facts.known) there in
+          let (i, stands, mine) = own q (leb-false m.processors q.processor f.facts.known) there in
           sym (alone p a i h (subst (λ x. copy (at_in b.lines) x i) (sym same) stands)) ∙ mine
       | inr (inl none) ↦ elim (eqb_tells p q.processor) [
         | inl is ↦ is.1
@@ -187,28 +162,27 @@ module _ (m : Measures) (b : Board) (l : Ledger) (k : Kept m b l) (one : OneHold
     abbrev after : Ledger
     after = done_by q.processor q.address (ul_sent f.case.command b.locks f.case.entry) q.command l
 
-    was : (p a : ℕ) → after.holds p a ≡ true → (l.holds p a ≡ true) ⊎ ((takes_lock q.command ≡ true) × (p ≡ q.processor) × (a ≡ q.address))
-    was p a h =
-        held_was l q.command q.processor q.address p a
-        (sym (done_holds l q.command q.processor q.address (ul_sent f.case.command b.locks f.case.entry) p a) ∙ h)
+    abbrev LockOf : ℕ → ℕ → Type 0
+    LockOf p a = Lock q.command q.processor q.address l p a
+
+    lock_of : (p a : ℕ) → after.holds p a ≡ true → LockOf p a
+    lock_of = lock_after q.command q.processor q.address (ul_sent f.case.command b.locks f.case.entry) l
 
     one_done : OneHolder after
-    one_done p r a c x y same = elim (was p a x) [
-      | inl old ↦ elim (was r c y) [
-        | inl before ↦ one p r a c old before same
-        | inr taken ↦ taken.1 ∙ sym (no_other_holder p a old (same ∙ ap block_of taken.2))
-      ]
-      | inr first ↦ elim (was r c y) [
-        | inl before ↦ no_other_holder r c before (sym same ∙ ap block_of first.2) ∙ sym first.1
-        | inr taken ↦ taken.1 ∙ sym first.1
-      ]
-    ]
+    one_done p r a c x y same = by_locks (lock_of p a x) (lock_of r c y)
+      where
+        by_locks : LockOf p a → LockOf r c → r ≡ p
+        by_locks (older held) (older held_too) = one p r a c held held_too same
+        by_locks (older held) (newer takes at_r at_c) = at_r ∙ sym (no_other_holder p a held (same ∙ ap block_of at_c))
+        by_locks (newer takes at_p at_a) (older held) = no_other_holder r c held (sym same ∙ ap block_of at_a) ∙ sym at_p
+        by_locks (newer takes at_p at_a) (newer takes_too at_r at_c) = at_r ∙ sym at_p
 
     listed_done : HoldersListed m after
-    listed_done p a h = elim (was p a h) [
-      | inl old ↦ listed p a old
-      | inr taken ↦ subst (λ x. x < m.processors) (sym taken.1) (low_of m q.processor f.facts.known)
-    ]
+    listed_done p a h = by_lock (lock_of p a h)
+      where
+        by_lock : LockOf p a → p < m.processors
+        by_lock (older held) = listed p a held
+        by_lock (newer takes at_p at_a) = subst (λ x. x < m.processors) (sym at_p) (leb-false m.processors q.processor f.facts.known)
 
   pub waits_law : (o : Outcome) → Shape m b.processors b.lines b.locks b.memory q o → WaitsIf (locked_by_other m l q.processor (block_of q.address)) o.answer
   waits_law o (refused e is) = subst (λ x. WaitsIf (locked_by_other m l q.processor (block_of q.address)) x.answer) (sym is) tt

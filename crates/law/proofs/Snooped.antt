@@ -1,6 +1,6 @@
 -- What a bus command does to the line at each place.
 use Rattle.std.proofs.Common.{◌≡◌, ℕ, zero, suc, ◌+◌, ◌<◌, ◌≤◌, Bool, true, false, cond, not, ◌&&◌, ◌⊎◌, eqb, leb, List, length, set, Some, None, Option, sym, refl, ap, subst, ◌∙◌, inl, inr, arith, length-set}
-use Rattle.std.proofs.lemmas.Bool.{eq-eqb, eqb-true, and_parts}
+use Rattle.std.proofs.lemmas.Bool.{eq-eqb, eqb-true, and_parts, cond-false, false_from_ne_true}
 use Rattle.std.proofs.lemmas.Bool.Decides.{eqb_tells, leb_tells, nat_tests}
 use Rattle.std.proofs.lemmas.List.{get_or-set_same, get_or-set_other}
 use Rattle.protocol.specs.declared.command.BusCommand.{BusCommand}
@@ -19,10 +19,6 @@ use Rattle.law.specs.Law.{owner}
 use Rattle.law.proofs.Hearing.{heard, BlockKept, kept_copy, heard_kept}
 use Rattle.law.proofs.Invariant.{at_in, copy, Home, Homed}
 use Rattle.law.proofs.Places.{FoundAt, copy_home, found_at, found_none, window_inside_table}
-
-no_cond : {X : Type 0} (b : Bool) (x y : X) → (b ≡ true → ⊥) → cond b x y ≡ y
-no_cond true x y never = absurd (never refl)
-no_cond false x y never = refl
 
 -- lines that are kept or become I stay in their windows
 module _ (m : Measures) (at left : ℕ → Line) (kept : (i : ℕ) → BlockKept (at i) (left i)) where
@@ -76,7 +72,7 @@ module _ (m : Measures) (some_columns : 0 < m.columns) (bus : BusCommand) (askin
 
     one_cache : (i : ℕ) (o : Option ℕ) → line_of m lines p block ≡ o
         → at_in (snooped_at bus lines o) i ≡ cond (in_cache i) (heard (Some bus) (at_in lines i)) (at_in lines i)
-    one_cache i None e = sym (no_cond (in_cache i) (heard (Some bus) (at_in lines i)) (at_in lines i) never)
+    one_cache i None e = sym (cond-false (in_cache i) _ _ (false_from_ne_true (in_cache i) never))
       where
         never : in_cache i ≡ true → ⊥
         never h =
@@ -106,7 +102,7 @@ module _ (m : Measures) (some_columns : 0 < m.columns) (bus : BusCommand) (askin
         by_place (inl same) = subst (λ k. at_in (set lines place new) k ≡ cond (in_cache k) (heard (Some bus) (at_in lines k)) (at_in lines k)) (sym same.1) here
         by_place (inr other) =
             get_or-set_other lines place i new no_line other.1
-            ∙ sym (no_cond (in_cache i) (heard (Some bus) (at_in lines i)) (at_in lines i) (never other.1))
+            ∙ sym (cond-false (in_cache i) _ _ (false_from_ne_true (in_cache i) (never other.1)))
 
     after_away : (i : ℕ) → (owner m i ≡ p → ⊥) → at_in (after p lines) i ≡ at_in lines i
     after_away i other = by_asking (eqb p asking)
@@ -117,7 +113,7 @@ module _ (m : Measures) (some_columns : 0 < m.columns) (bus : BusCommand) (askin
         by_asking : (b : Bool) → at_in (cond b lines (cache_snooped m bus block p lines)) i ≡ at_in lines i
         by_asking true = refl
         by_asking false =
-            one_cache i (line_of m lines p block) refl ∙ no_cond (in_cache i) (heard (Some bus) (at_in lines i)) (at_in lines i) never
+            one_cache i (line_of m lines p block) refl ∙ cond-false (in_cache i) _ _ (false_from_ne_true (in_cache i) never)
 
     after_here : (i : ℕ) → owner m i ≡ p → at_in (after p lines) i ≡ left_at i (at_in lines i)
     after_here i owned = by_asking (eqb p asking) refl
@@ -188,7 +184,7 @@ module _ (m : Measures) (some_columns : 0 < m.columns) (bus : BusCommand) (askin
       | inl past ↦
           let out = past.1 in
           from_outside m.processors 0 lines fit homed (omega arith) i (inr (omega (arith, out)))
-          ∙ sym (no_cond (holds_block block (at_in lines i) && not (eqb (owner m i) asking)) (heard (Some bus) (at_in lines i)) (at_in lines i) (never out))
+          ∙ sym (cond-false _ (heard (Some bus) (at_in lines i)) (at_in lines i) (false_from_ne_true _ (never out)))
       | inr within ↦ let low = within.1 in from_inside m.processors 0 lines fit homed (omega arith) i (omega arith) (omega (arith, low))
     ]
       where

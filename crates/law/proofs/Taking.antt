@@ -1,6 +1,7 @@
 -- The way that a command takes lies in its processor's window.
 use Rattle.std.proofs.Common.{◌≡◌, ℕ, ◌+◌, ◌%◌, ◌<◌, ◌≤◌, Bool, true, false, not, List, length, get_or, Some, None, Option, sym, refl, ap, ◌∙◌, arith}
 use Rattle.std.proofs.Math.Nat.{mod-lt}
+use Rattle.std.proofs.lemmas.Bool.{not-true}
 use Rattle.protocol.specs.declared.line.Line.{Line}
 use Rattle.protocol.specs.declared.measures.Measures.{Measures}
 use Rattle.protocol.specs.Entries.{valid}
@@ -60,15 +61,11 @@ module _ (m : Measures) (some_columns : 0 < m.columns) (some_ways : 0 < m.ways) 
   pub way_free : (taken_way m lines p block turn).by_turn ≡ false → valid (at_in lines (taken_way m lines p block turn).place).state ≡ false
   way_free h = by_free (free_way m lines p block) refl h
     where
-      not_valid : (b : Bool) → not b ≡ true → b ≡ false
-      not_valid true h = absurd (cc)
-      not_valid false h = refl
-
       by_free : (o : Option ℕ) → free_way m lines p block ≡ o → (chosen_way o (start + turn % m.ways)).by_turn ≡ false
           → valid (at_in lines (chosen_way o (start + turn % m.ways)).place).state ≡ false
       by_free (Some place) e h =
           let here = found place e in
           ap (λ k. valid (get_or lines k no_line).state) here.is
           ∙ ap (λ (l : Line). valid l.state) (sym (at_window lines start m.ways here.index no_line (below place e)))
-          ∙ not_valid (valid (get_or (window_of start m.ways lines) here.index no_line).state) here.passes
+          ∙ not-true (valid (get_or (window_of start m.ways lines) here.index no_line).state) here.passes
       by_free None e h = absurd (cc)
