@@ -1,5 +1,5 @@
 -- Who holds locks: the lock entries and the ledger agree.
-use Rattle.std.proofs.Common.{◌≡◌, ℕ, suc, ◌+◌, ◌*◌, ◌%◌, ◌<◌, ◌≤◌, Bool, true, false, cond, not, ◌&&◌, eqb, ltb, leb, List, length, get_or, set, is_some, Some, None, Option, sym, refl, ap, ◌∙◌, inl, inr, mul-le-mul_right, suc-mul, arith}
+use Rattle.std.proofs.Common.{◌≡◌, ℕ, suc, ◌+◌, ◌-◌, ◌*◌, ◌%◌, ◌<◌, ◌≤◌, Bool, true, false, cond, not, ◌&&◌, eqb, ltb, leb, List, length, get_or, set, is_some, Some, None, Option, sym, refl, ap, ◌∙◌, inl, inr, mul-le-mul_right, suc-mul, arith}
 use Rattle.std.specs.List.{count_by}
 use Rattle.std.proofs.lemmas.List.Sums.{sum_by-set}
 use Rattle.std.proofs.lemmas.Bool.{cond_both, eqb-true, leb-false}
@@ -21,36 +21,9 @@ use Rattle.cluster.specs.Refusing.{entry_used}
 use Rattle.cluster.specs.Rule.{Outcome}
 use Rattle.cluster.specs.Settling.{takes_lock, releases_lock, locked_at, locks_settled, ul_sent}
 use Rattle.law.specs.Ledger.{Ledger, command_fed, done_by}
+use Rattle.law.proofs.Entries.{EntryAt, entry_at, locked_seen, unused_seen, held_seen, waited_seen}
 use Rattle.law.proofs.Shapes.{Shape, refused, waited, finished}
-use Rattle.law.proofs.Windows.{count-map, first_counted, first_at, window_outside, window_inside, length-window, window-map, apart}
-
--- what the test for an address sees of an entry
-locked_seen : (a address : ℕ) → locks_from a a (locked_at address) ≡ eqb a address
-locked_seen a address = grind (arith, nat_tests)
-
-unused_seen : (a : ℕ) (e : LockEntry) → unused in_use e ≡ true → locks_from a a e ≡ false
-unused_seen a e h = by_use (in_use e) h
-  where
-    by_use : (b : Bool) → not b ≡ true → (b && leb a e.address && leb e.address a) ≡ false
-    by_use true h = absurd (cc)
-    by_use false h = refl
-
-held_seen : (a address : ℕ) (e : LockEntry) → locks_from address address e ≡ true → locks_from a a e ≡ eqb a address
-held_seen a address e h = by_use (in_use e) h
-  where
-    by_use : (b : Bool) → (b && leb address e.address && leb e.address address) ≡ true → (b && leb a e.address && leb e.address a) ≡ eqb a address
-    by_use true h = grind (arith, nat_tests)
-    by_use false h = absurd (cc)
-
-waited_seen : (m : Measures) (asking block a i : ℕ) (e : LockEntry) → locks_from a a (waited_at m asking block i e) ≡ locks_from a a e
-waited_seen m asking block a i e = by_own (own_entry m asking i) (in_use e) (leb (4 * block) e.address) (leb e.address (4 * block + 3)) refl
-  where
-    by_own : (o b j k : Bool) → in_use e ≡ b → locks_from a a (cond (not o && (b && j && k)) (record { state = LW; address = e.address }) e) ≡ locks_from a a e
-    by_own true b j k h = refl
-    by_own false false j k h = refl
-    by_own false true false k h = refl
-    by_own false true true false h = refl
-    by_own false true true true h = ap (λ x. x && leb a e.address && leb e.address a) (sym h)
+use Rattle.law.proofs.Windows.{count-map, first_counted, get_or-window, in_window, window_outside, window_inside, window-map, apart}
 
 -- what a done command leaves of the locks in the ledger
 abbrev pub changed : ℕ → ℕ → Bool → Ledger → ℕ → ℕ → Bool
@@ -98,12 +71,6 @@ module _ (m : Measures) (locks : List LockEntry) (fit : length locks ≡ lock_co
   abbrev pub held_in : List LockEntry → ℕ → ℕ → ℕ
   held_in table p a = count_by (locks_from a a) (window_of (locks_start m p) m.lock_entries table)
 
-  room_of : (p : ℕ) → p < m.processors → locks_start m p + m.lock_entries ≤ length locks
-  room_of p h =
-      let up : suc p * m.lock_entries ≤ m.processors * m.lock_entries = mul-le-mul_right m.lock_entries h in
-      let next = suc-mul p m.lock_entries in
-      omega (arith, up, next, fit)
-
   -- an entry of one processor's window exchanged: the others see nothing of it
   pub kept_apart : (p0 p a place : ℕ) (e : LockEntry) → (p ≡ p0 → ⊥) → locks_start m p0 ≤ place → place < locks_start m p0 + m.lock_entries
       → held_in (set locks place e) p a ≡ held_in locks p a
@@ -111,15 +78,20 @@ module _ (m : Measures) (locks : List LockEntry) (fit : length locks ≡ lock_co
       ap (count_by (locks_from a a)) (window_outside locks (locks_start m p) m.lock_entries place e
       (apart m.lock_entries p0 p place (λ same. other (sym same)) low high))
 
-  pub exchanged : (p0 a place j : ℕ) (e : LockEntry) → p0 < m.processors → place ≡ locks_start m p0 + j → j < m.lock_entries
-      → held_in (set locks place e) p0 a + cond (locks_from a a (get_or (window_of (locks_start m p0) m.lock_entries locks) j blank_entry)) 1 0
-      ≡ held_in locks p0 a + cond (locks_from a a e) 1 0
-  exchanged p0 a place j e known at low =
+  pub exchanged : (p0 a place : ℕ) (test : LockEntry → Bool) (e : LockEntry) → EntryAt m locks p0 test place
+      → held_in (set locks place e) p0 a + cond (locks_from a a (get_or locks place blank_entry)) 1 0 ≡ held_in locks p0 a + cond (locks_from a a e) 1 0
+  exchanged p0 a place test e found =
       let s = locks_start m p0 in
       let n = m.lock_entries in
-      let long = length-window locks s n (room_of p0 known) in
-      ap (λ w. count_by (locks_from a a) w + cond (locks_from a a (get_or (window_of s n locks) j blank_entry)) 1 0) (window_inside locks s n place e j at low)
-      ∙ sum_by-set (λ x. cond (locks_from a a x) 1 0) (window_of s n locks) j e blank_entry (omega (arith, long, low))
+      let from = found.from in
+      let j = place - s in
+      let at : place ≡ s + j = omega (arith, from) in
+      let low : j < n = (let to = found.to in omega (arith, from, to)) in
+      let there = in_window locks s n j low (let inside = found.inside in omega (arith, at, inside)) in
+      let same : get_or locks place blank_entry ≡ get_or (window_of s n locks) j blank_entry =
+      ap (λ k. get_or locks k blank_entry) at ∙ sym (get_or-window locks s n j blank_entry low) in
+      (λ i. count_by (locks_from a a) (window_inside locks s n place e j at low i) + cond (locks_from a a (same i)) 1 0)
+      ∙ sum_by-set (λ x. cond (locks_from a a x) 1 0) (window_of s n locks) j e blank_entry there
 
   pub kept_waited : (asking block p a : ℕ) → held_in (waited_for m locks asking block) p a ≡ held_in locks p a
   kept_waited asking block p a =
@@ -152,29 +124,32 @@ module _ (m : Measures) (locks : List LockEntry) (fit : length locks ≡ lock_co
     as_own : (p a : ℕ) (held : Bool) → (eqb p p0 ≡ true) × (p ≡ p0) → cond (eqb a a0) held (l.holds p0 a) ≡ changed p0 a0 held l p a
     as_own p a held same = rw (same.0, same.1) refl
 
+    -- an own entry exchanged: of the others all stays
+    own_exchanged : (place : ℕ) (e : LockEntry) (held : Bool) → locks_start m p0 ≤ place → place < locks_start m p0 + m.lock_entries
+        → ((a : ℕ) → held_in (set locks place e) p0 a ≡ cond (cond (eqb a a0) held (l.holds p0 a)) 1 0)
+        → (p : ℕ) → p < m.processors → (a : ℕ) → held_in (set locks place e) p a ≡ cond (changed p0 a0 held l p a) 1 0
+    own_exchanged place e held from to own p listed a = elim (eqb_tells p p0) [
+      | inl same ↦ ap (λ x. held_in (set locks place e) x a) same.1 ∙ own a ∙ ap (λ h. cond h 1 0) (as_own p a held same)
+      | inr other ↦ kept_apart p0 p a place e other.1 from to ∙ agree p listed a ∙ ap (λ h. cond h 1 0) (other_same p a held other.0)
+    ]
+
+    -- and of the own other addresses
+    own_other : (a x : ℕ) (held : Bool) → eqb a a0 ≡ false → x ≡ held_in locks p0 a → x ≡ cond (cond (eqb a a0) held (l.holds p0 a)) 1 0
+    own_other a x held e same = rw e (same ∙ agree p0 known a)
+
     -- LR writes an empty entry
     took : (place : ℕ) → free_entry m locks p0 ≡ Some place → is_some (held_entry m locks p0 a0) ≡ false → (p : ℕ) → p < m.processors → (a : ℕ)
         → held_in (set locks place (locked_at a0)) p a ≡ cond (changed p0 a0 true l p a) 1 0
-    took place free none p listed a =
-        let s = locks_start m p0 in
-        let n = m.lock_entries in
-        let found = first_at (unused in_use) s (window_of s n locks) blank_entry place free in
-        let long = length-window locks s n (room_of p0 known) in
-        let j = found.index in
-        let low : j < n = (let inside = found.inside in omega (arith, inside, long)) in
-        let is = found.is in
-        elim (eqb_tells p p0) [
-          | inl same ↦
-              ap (λ x. held_in (set locks place (locked_at a0)) x a) same.1
-              ∙ own a (held_in (set locks place (locked_at a0)) p0 a)
-              (ap (λ b. held_in (set locks place (locked_at a0)) p0 a + cond b 1 0) (sym (unused_seen a (get_or (window_of s n locks) j blank_entry) found.passes))
-              ∙ exchanged p0 a place j (locked_at a0) known is low ∙ ap (λ b. held_in locks p0 a + cond b 1 0) (locked_seen a a0))
-              ∙ ap (λ h. cond h 1 0) (as_own p a true same)
-          | inr other ↦
-              kept_apart p0 p a place (locked_at a0) other.1 (omega (arith, is)) (omega (arith, is, low))
-              ∙ agree p listed a ∙ ap (λ h. cond h 1 0) (other_same p a true other.0)
-        ]
+    took place free none = own_exchanged place (locked_at a0) true found.from found.to (λ a. own a (held_in (set locks place (locked_at a0)) p0 a) (seen a))
       where
+        found : EntryAt m locks p0 (unused in_use) place
+        found = entry_at m locks p0 (unused in_use) place free
+
+        seen : (a : ℕ) → held_in (set locks place (locked_at a0)) p0 a + 0 ≡ held_in locks p0 a + cond (eqb a a0) 1 0
+        seen a =
+            ap (λ b. held_in (set locks place (locked_at a0)) p0 a + cond b 1 0) (sym (unused_seen a (get_or locks place blank_entry) found.passes))
+            ∙ exchanged p0 a place (unused in_use) (locked_at a0) found ∙ ap (λ b. held_in locks p0 a + cond b 1 0) (locked_seen a a0)
+
         free_of : l.holds p0 a0 ≡ false
         free_of = one_of (l.holds p0 a0) (held_in locks p0 a0) (agree p0 known a0)
             (not_none (held_in locks p0 a0) (sym (first_counted (locks_from a0 a0) (locks_start m p0) (window_of (locks_start m p0) m.lock_entries locks)) ∙ none))
@@ -187,34 +162,22 @@ module _ (m : Measures) (locks : List LockEntry) (fit : length locks ≡ lock_co
               rw same.0 (omega (arith, e, none, one))
           | inr other ↦
               let none : ◌≡◌ {A = ℕ} (cond (eqb a a0) 1 0) 0 = ap (λ b. cond b 1 0) other.0 in
-              let was = agree p0 known a in
-              let now : x ≡ held_in locks p0 a = omega (arith, e, none) in
-              rw other.0 (now ∙ was)
+              own_other a x true other.0 (omega (arith, e, none))
         ]
 
     -- a release empties the entry with its address
     gave : (place : ℕ) → held_entry m locks p0 a0 ≡ Some place → (p : ℕ) → p < m.processors → (a : ℕ)
         → held_in (set locks place blank_entry) p a ≡ cond (changed p0 a0 false l p a) 1 0
-    gave place held p listed a =
-        let s = locks_start m p0 in
-        let n = m.lock_entries in
-        let found = first_at (locks_from a0 a0) s (window_of s n locks) blank_entry place held in
-        let long = length-window locks s n (room_of p0 known) in
-        let j = found.index in
-        let low : j < n = (let inside = found.inside in omega (arith, inside, long)) in
-        let is = found.is in
-        elim (eqb_tells p p0) [
-          | inl same ↦
-              ap (λ x. held_in (set locks place blank_entry) x a) same.1
-              ∙ own a (held_in (set locks place blank_entry) p0 a)
-              (ap (λ b. held_in (set locks place blank_entry) p0 a + cond b 1 0) (sym (held_seen a a0 (get_or (window_of s n locks) j blank_entry) found.passes))
-              ∙ exchanged p0 a place j blank_entry known is low)
-              ∙ ap (λ h. cond h 1 0) (as_own p a false same)
-          | inr other ↦
-              kept_apart p0 p a place blank_entry other.1 (omega (arith, is)) (omega (arith, is, low))
-              ∙ agree p listed a ∙ ap (λ h. cond h 1 0) (other_same p a false other.0)
-        ]
+    gave place held = own_exchanged place blank_entry false found.from found.to (λ a. own a (held_in (set locks place blank_entry) p0 a) (seen a))
       where
+        found : EntryAt m locks p0 (locks_from a0 a0) place
+        found = entry_at m locks p0 (locks_from a0 a0) place held
+
+        seen : (a : ℕ) → held_in (set locks place blank_entry) p0 a + cond (eqb a a0) 1 0 ≡ held_in locks p0 a + 0
+        seen a =
+            ap (λ b. held_in (set locks place blank_entry) p0 a + cond b 1 0) (sym (held_seen a a0 (get_or locks place blank_entry) found.passes))
+            ∙ exchanged p0 a place (locks_from a0 a0) blank_entry found
+
         own : (a x : ℕ) → x + cond (eqb a a0) 1 0 ≡ held_in locks p0 a + 0 → x ≡ cond (cond (eqb a a0) false (l.holds p0 a)) 1 0
         own a x e = elim (eqb_tells a a0) [
           | inl same ↦
@@ -223,10 +186,14 @@ module _ (m : Measures) (locks : List LockEntry) (fit : length locks ≡ lock_co
               rw same.0 (omega (arith, e, one, all))
           | inr other ↦
               let none : ◌≡◌ {A = ℕ} (cond (eqb a a0) 1 0) 0 = ap (λ b. cond b 1 0) other.0 in
-              let was = agree p0 known a in
-              let now : x ≡ held_in locks p0 a = omega (arith, e, none) in
-              rw other.0 (now ∙ was)
+              own_other a x false other.0 (omega (arith, e, none))
         ]
+
+    released : (c : Command) → takes_lock c ≡ false → (o : Option ℕ) → held_entry m locks p0 a0 ≡ o → not (is_some o) ≡ false
+        → (p : ℕ) → p < m.processors → (a : ℕ) → held_in (locks_settled c a0 locks o) p a ≡ cond (changed p0 a0 false l p a) 1 0
+    released c takes None same h p listed a = absurd (cc)
+    released c takes (Some place) same h p listed a =
+        ap (λ b. held_in (set locks place (cond b (locked_at a0) blank_entry)) p a) takes ∙ gave place same p listed a
 
     -- by what the command does with locks
     settled : (c : Command) → q.command ≡ c → (takes_lock c && is_some (held_entry m locks p0 a0)) ≡ false → (takes_lock c && not (is_some (free_entry m locks p0))) ≡ false
@@ -243,16 +210,8 @@ module _ (m : Measures) (locks : List LockEntry) (fit : length locks ≡ lock_co
         by_free : (o : Option ℕ) → free_entry m locks p0 ≡ o → not (is_some o) ≡ false → held_in (locks_settled LR a0 locks o) p a ≡ cond (changed p0 a0 true l p a) 1 0
         by_free None same h = absurd (cc)
         by_free (Some place) same h = took place same x p listed a
-    settled (UW word) e x y z p listed a = rw e (by_held (held_entry m locks p0 a0) refl z)
-      where
-        by_held : (o : Option ℕ) → held_entry m locks p0 a0 ≡ o → not (is_some o) ≡ false → held_in (locks_settled (UW word) a0 locks o) p a ≡ cond (changed p0 a0 false l p a) 1 0
-        by_held None same h = absurd (cc)
-        by_held (Some place) same h = gave place same p listed a
-    settled U e x y z p listed a = rw e (by_held (held_entry m locks p0 a0) refl z)
-      where
-        by_held : (o : Option ℕ) → held_entry m locks p0 a0 ≡ o → not (is_some o) ≡ false → held_in (locks_settled U a0 locks o) p a ≡ cond (changed p0 a0 false l p a) 1 0
-        by_held None same h = absurd (cc)
-        by_held (Some place) same h = gave place same p listed a
+    settled (UW word) e x y z p listed a = rw e (released (UW word) refl (held_entry m locks p0 a0) refl z p listed a)
+    settled U e x y z p listed a = rw e (released U refl (held_entry m locks p0 a0) refl z p listed a)
 
 module _ (m : Measures) (ps : List Processor) (lines : List Line) (locks : List LockEntry) (mem : Mem) (q : Request) (l : Ledger)
     (fit : length locks ≡ lock_count m) (agree : (p : ℕ) → p < m.processors → (a : ℕ) → held_in m locks fit locks p a ≡ cond (l.holds p a) 1 0) where

@@ -12,6 +12,7 @@ pub mod Shapes
 pub mod Unchanged
 pub mod Awaits
 pub mod Windows
+pub mod Entries
 pub mod Holds
 pub mod Told
 pub mod Places

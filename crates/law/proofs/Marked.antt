@@ -28,12 +28,13 @@ use Rattle.law.specs.Calls.{Board, command, command_on, left_by}
 use Rattle.law.specs.Law.{OnDone, locks_in, locked}
 use Rattle.law.specs.Ledger.{Ledger, block_of, opened, waits_in, command_fed, done_by}
 use Rattle.law.proofs.Awaits.{wake, done_waits, ul_quiet}
+use Rattle.law.proofs.Entries.{entry_at, locks_at}
 use Rattle.law.proofs.Invariant.{OneHolder, Marked, AllMarked}
-use Rattle.law.proofs.LockLaw.{the_some, stands, locks_at, blocked_at, block_in, entry_holds}
+use Rattle.law.proofs.LockLaw.{the_some, blocked_at, block_in, entry_holds}
 use Rattle.law.proofs.LocksKept.{HoldersListed, some_passes, hit_by}
 use Rattle.law.proofs.Shapes.{Shape, refused, waited, finished, shape}
-use Rattle.law.proofs.Told.{Kept, kept_on, length-map}
-use Rattle.law.proofs.Windows.{apart}
+use Rattle.law.proofs.Told.{Kept, kept_on}
+use Rattle.law.proofs.Windows.{apart, length-map, get_or-map}
 
 -- an entry that somebody waits for is in use
 waited_used : (e : LockEntry) → somebody_waits e ≡ true → in_use e ≡ true
@@ -74,20 +75,12 @@ nobody_waits m b l k marked block free r = by_wait (l.waits r) refl
       | inr other ↦ other.0
     ]
 
--- a table whose entries are changed by their place
-at_map : {X : Type 0} (f : ℕ → X → X) (at : ℕ) (xs : List X) (i : ℕ) (d : X) → i < length xs → get_or (map_from f at xs) i d ≡ f (at + i) (get_or xs i d)
-at_map f at [] i d h = absurd (omega (arith, h))
-at_map f at (x ∷ xs) zero d h = let same : at ≡ at + 0 = omega arith in ap (λ k. f k x) same
-at_map f at (x ∷ xs) (suc i) d h =
-    let same : at + 1 + i ≡ at + suc i = omega arith in
-    at_map f (at + 1) xs i d (omega (arith, h)) ∙ ap (λ k. f k (get_or xs i d)) same
-
 -- the entries after a WAIT
 module _ (m : Measures) (locks : List LockEntry) (asking block : ℕ) where
   at_waited : (i : ℕ) → i < length locks → get_or (waited_for m locks asking block) i blank_entry ≡ waited_at m asking block i (get_or locks i blank_entry)
   at_waited i h =
       let same : 0 + i ≡ i = omega arith in
-      at_map (waited_at m asking block) 0 locks i blank_entry h ∙ ap (λ k. waited_at m asking block k (get_or locks i blank_entry)) same
+      get_or-map (waited_at m asking block) 0 locks i blank_entry h ∙ ap (λ k. waited_at m asking block k (get_or locks i blank_entry)) same
 
   -- an entry that is waited for after it, by what becomes of it
   mark_at : (i to : ℕ) → i < length locks → somebody_waits (waited_at m asking block i (get_or locks i blank_entry)) ≡ true
@@ -120,7 +113,7 @@ module _ (m : Measures) (locks : List LockEntry) (asking block : ℕ) where
       by_entry : (p : ℕ) → (p ≡ asking → ⊥) → has_lock m locks block p ≡ true → Marked (waited_for m locks asking block) block
       by_entry p other has =
           let (i, at) = the_some (entry_of m locks p (locks_block block)) has in
-          let found = stands m locks p (locks_block block) i at in
+          let found = entry_at m locks p (locks_block block) i at in
           let e = get_or locks i blank_entry in
           let tells = blocked_at block e found.passes in
           let test : (not (own_entry m asking i) && locks_block block e) ≡ true = rw (not_own p i other found.from found.to, found.passes) refl in
@@ -154,10 +147,10 @@ module _ (m : Measures) (locks : List LockEntry) (q : Request) where
           → cond t (free_entry m locks q.processor) (cond r (held_entry m locks q.processor q.address) None) ≡ Some i
           → (in_use (get_or locks i blank_entry) ≡ false) ⊎ ((takes_lock q.command ≡ false) × ((get_or locks i blank_entry).address ≡ q.address))
       by_tests true r e h =
-          let found = stands m locks q.processor (unused in_use) i h in
+          let found = entry_at m locks q.processor (unused in_use) i h in
           inl (false_from_ne_true (in_use (get_or locks i blank_entry)) (λ used. false≢true (sym (ap not used) ∙ found.passes)))
       by_tests false true e h =
-          let found = stands m locks q.processor (locks_from q.address q.address) i h in
+          let found = entry_at m locks q.processor (locks_from q.address q.address) i h in
           let tells = locks_at q.address (get_or locks i blank_entry) found.passes in
           inr (e, tells.1)
       by_tests false false e h = absurd (cc)

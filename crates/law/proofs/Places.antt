@@ -17,21 +17,7 @@ use Rattle.cluster.specs.Copies.{holds_block, line_of, other_copy, supplier_of}
 use Rattle.law.specs.Law.{owner}
 use Rattle.law.proofs.Copied.{copy_valid, copy_block}
 use Rattle.law.proofs.Invariant.{at_in, copy, Home, Homed}
-use Rattle.law.proofs.Windows.{first_at, length-window}
-
-pub at_window : {X : Type 0} (xs : List X) (s n j : ℕ) (d : X) → j < n → get_or (window_of s n xs) j d ≡ get_or xs (s + j) d
-at_window xs s n j d low = get_or-take n (drop s xs) j d low ∙ get_or-drop s xs j d
-
--- a search that finds nothing
-pub none_at : {X : Type 0} (test : X → Bool) (at : ℕ) (xs : List X) (d : X) → first_in test at xs ≡ None → (k : ℕ) → k < length xs → test (get_or xs k d) ≡ false
-none_at test at xs d e k low = fails_before_first test xs k d (let long = past in omega (arith, long, low))
-  where
-    by_test : (b : Bool) → cond b (Some (at + position_or_len test xs)) None ≡ None → b ≡ false
-    by_test true h = absurd (cc)
-    by_test false h = refl
-
-    past : length xs ≤ position_or_len test xs
-    past = let none = by_test (ltb (position_or_len test xs) (length xs)) (sym (first_from test at xs) ∙ e) in grind (arith, nat_tests)
+use Rattle.law.proofs.Windows.{stands, none_stands}
 
 -- the copy that a cache's search found
 pub record FoundAt (m : Measures) (lines : List Line) (p block i : ℕ) : Type 0 where
@@ -88,13 +74,6 @@ module _ (m : Measures) (some_columns : 0 < m.columns) where
         let same = mul_assoc m.processors m.columns m.ways in
         omega (arith, to, up, same, fit, high)
 
-    pub room_of : (p block : ℕ) → p < m.processors → length (window_of (window_start m p block) m.ways lines) ≡ m.ways
-    room_of p block listed =
-        let to = window_to p block in
-        let up : suc p * (m.columns * m.ways) ≤ m.processors * (m.columns * m.ways) = mul-le-mul_right (m.columns * m.ways) listed in
-        let same = mul_assoc m.processors m.columns m.ways in
-        length-window lines (window_start m p block) m.ways (omega (arith, to, up, same, fit))
-
     module _ (homed : Homed m (at_in lines)) where
       -- a copy stands in its block's window in its owner's cache
       pub copy_home : (block i : ℕ) → copy (at_in lines) block i → Home m block i
@@ -102,26 +81,15 @@ module _ (m : Measures) (some_columns : 0 < m.columns) where
 
       pub found_at : (p block i : ℕ) → p < m.processors → line_of m lines p block ≡ Some i → FoundAt m lines p block i
       found_at p block i listed e =
-          let s = window_start m p block in
-          let found = first_at (holds_block block) s (window_of s m.ways lines) no_line i e in
-          let long = room_of p block listed in
-          let low : found.index < m.ways = (let inside = found.inside in omega (arith, inside, long)) in
-          let is = found.is in
-          let owned = owner_in p block i (omega (arith, is)) (omega (arith, is, low)) in
-          let here = ap (λ k. holds_block block (get_or lines k no_line)) is ∙ ap (holds_block block) (sym (at_window lines s m.ways found.index no_line low)) ∙ found.passes in
-          record { copied = here; owned = owned; home = copy_home block i here }
+          let found = stands (holds_block block) lines (window_start m p block) m.ways no_line i e in
+          record { copied = found.passes; owned = owner_in p block i found.from found.to; home = copy_home block i found.passes }
 
       pub found_none : (p block : ℕ) → p < m.processors → line_of m lines p block ≡ None → (i : ℕ) → copy (at_in lines) block i → owner m i ≡ p → ⊥
       found_none p block listed e i here owned =
-          let s = window_start m p block in
-          let home = subst (λ o. (window_start m o block ≤ i) × (i < window_start m o block + m.ways)) owned (let h = copy_home block i here in (h.from, h.to)) in
-          let from = home.0 in
-          let to = home.1 in
-          let low : i - s < m.ways = omega (arith, from, to) in
-          let long = room_of p block listed in
-          let at : s + (i - s) ≡ i = omega (arith, from) in
-          let none = none_at (holds_block block) s (window_of s m.ways lines) no_line e (i - s) (omega (arith, low, long)) in
-          false≢true (sym none ∙ ap (holds_block block) (at_window lines s m.ways (i - s) no_line low) ∙ ap (λ k. holds_block block (get_or lines k no_line)) at ∙ here)
+          let home = copy_home block i here in
+          let (from, to) = subst (λ o. (window_start m o block ≤ i) × (i < window_start m o block + m.ways)) owned (home.from, home.to) in
+          none_stands (holds_block block) lines (window_start m p block) m.ways no_line e i
+          (record { from = from; to = to; inside = window_inside_table p block i listed to; passes = here })
 
       pub supplier_some : (asking block p : ℕ) → supplier_of m lines asking block ≡ Some p → Supplying m lines asking block p
       supplier_some asking block p e =

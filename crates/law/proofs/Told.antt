@@ -26,14 +26,10 @@ use Rattle.law.specs.Ledger.{Ledger, opened, fed}
 use Rattle.law.proofs.Awaits.{waits_kept}
 use Rattle.law.proofs.Holds.{holds_kept}
 use Rattle.law.proofs.Shapes.{Shape, refused, waited, finished, shape}
-use Rattle.law.proofs.Windows.{first_counted}
+use Rattle.law.proofs.Windows.{first_counted, length-map}
 use Rattle.std.specs.List.{count_by}
 use Rattle.std.proofs.lemmas.List.Folds.{sum_by-replicate}
 use Rattle.std.proofs.lemmas.List.Sums.{sum_by-take-drop, sum_by-take-le}
-
-pub length-map : {X : Type 0} (f : ℕ → X → X) (at : ℕ) (xs : List X) → length (map_from f at xs) ≡ length xs
-length-map f at [] = refl
-length-map f at (x ∷ xs) = ap suc (length-map f (at + 1) xs)
 
 -- the tables keep their lengths
 pub length_settled : (c : Command) (a : ℕ) (locks : List LockEntry) (entry : Option ℕ) → length (locks_settled c a locks entry) ≡ length locks
