@@ -67,19 +67,20 @@ lock_after c p0 a0 b l p a h = by_takes (takes_lock c) (releases_lock c) refl (s
     by_takes false true e x = older (by_same (eqb p p0 && eqb a a0) x)
     by_takes false false e x = older x
 
-module _ (m : Measures) (locks : List LockEntry) (fit : length locks ≡ lock_count m) where
-  abbrev pub held_in : List LockEntry → ℕ → ℕ → ℕ
-  held_in table p a = count_by (locks_from a a) (window_of (locks_start m p) m.lock_entries table)
+-- how many of the processor's entries are locks at the address
+abbrev pub held_by : Measures → List LockEntry → ℕ → ℕ → ℕ
+held_by m locks p a = count_by (locks_from a a) (window_of (locks_start m p) m.lock_entries locks)
 
+module _ (m : Measures) (locks : List LockEntry) where
   -- an entry of one processor's window exchanged: the others see nothing of it
   pub kept_apart : (p0 p a place : ℕ) (e : LockEntry) → (p ≡ p0 → ⊥) → locks_start m p0 ≤ place → place < locks_start m p0 + m.lock_entries
-      → held_in (set locks place e) p a ≡ held_in locks p a
+      → held_by m (set locks place e) p a ≡ held_by m locks p a
   kept_apart p0 p a place e other low high =
       ap (count_by (locks_from a a)) (window_outside locks (locks_start m p) m.lock_entries place e
       (apart m.lock_entries p0 p place (λ same. other (sym same)) low high))
 
   pub exchanged : (p0 a place : ℕ) (test : LockEntry → Bool) (e : LockEntry) → EntryAt m locks p0 test place
-      → held_in (set locks place e) p0 a + cond (locks_from a a (get_or locks place blank_entry)) 1 0 ≡ held_in locks p0 a + cond (locks_from a a e) 1 0
+      → held_by m (set locks place e) p0 a + cond (locks_from a a (get_or locks place blank_entry)) 1 0 ≡ held_by m locks p0 a + cond (locks_from a a e) 1 0
   exchanged p0 a place test e found =
       let s = locks_start m p0 in
       let n = m.lock_entries in
@@ -93,14 +94,14 @@ module _ (m : Measures) (locks : List LockEntry) (fit : length locks ≡ lock_co
       (λ i. count_by (locks_from a a) (window_inside locks s n place e j at low i) + cond (locks_from a a (same i)) 1 0)
       ∙ sum_by-set (λ x. cond (locks_from a a x) 1 0) (window_of s n locks) j e blank_entry there
 
-  pub kept_waited : (asking block p a : ℕ) → held_in (waited_for m locks asking block) p a ≡ held_in locks p a
+  pub kept_waited : (asking block p a : ℕ) → held_by m (waited_for m locks asking block) p a ≡ held_by m locks p a
   kept_waited asking block p a =
       ap (count_by (locks_from a a)) (window-map (waited_at m asking block) (locks_start m p) m.lock_entries locks)
       ∙ count-map (locks_from a a) (waited_at m asking block) (λ i e. waited_seen m asking block a i e) (0 + locks_start m p) (window_of (locks_start m p) m.lock_entries locks)
 
   -- the entries after a done command
   module _ (q : Request) (l : Ledger) (known : q.processor < m.processors)
-      (agree : (p : ℕ) → p < m.processors → (a : ℕ) → held_in locks p a ≡ cond (l.holds p a) 1 0) where
+      (agree : (p : ℕ) → p < m.processors → (a : ℕ) → held_by m locks p a ≡ cond (l.holds p a) 1 0) where
     abbrev p0 : ℕ
     p0 = q.processor
 
@@ -126,38 +127,38 @@ module _ (m : Measures) (locks : List LockEntry) (fit : length locks ≡ lock_co
 
     -- an own entry exchanged: of the others all stays
     own_exchanged : (place : ℕ) (e : LockEntry) (held : Bool) → locks_start m p0 ≤ place → place < locks_start m p0 + m.lock_entries
-        → ((a : ℕ) → held_in (set locks place e) p0 a ≡ cond (cond (eqb a a0) held (l.holds p0 a)) 1 0)
-        → (p : ℕ) → p < m.processors → (a : ℕ) → held_in (set locks place e) p a ≡ cond (changed p0 a0 held l p a) 1 0
+        → ((a : ℕ) → held_by m (set locks place e) p0 a ≡ cond (cond (eqb a a0) held (l.holds p0 a)) 1 0)
+        → (p : ℕ) → p < m.processors → (a : ℕ) → held_by m (set locks place e) p a ≡ cond (changed p0 a0 held l p a) 1 0
     own_exchanged place e held from to own p listed a = elim (eqb_tells p p0) [
-      | inl same ↦ ap (λ x. held_in (set locks place e) x a) same.1 ∙ own a ∙ ap (λ h. cond h 1 0) (as_own p a held same)
+      | inl same ↦ ap (λ x. held_by m (set locks place e) x a) same.1 ∙ own a ∙ ap (λ h. cond h 1 0) (as_own p a held same)
       | inr other ↦ kept_apart p0 p a place e other.1 from to ∙ agree p listed a ∙ ap (λ h. cond h 1 0) (other_same p a held other.0)
     ]
 
     -- and of the own other addresses
-    own_other : (a x : ℕ) (held : Bool) → eqb a a0 ≡ false → x ≡ held_in locks p0 a → x ≡ cond (cond (eqb a a0) held (l.holds p0 a)) 1 0
+    own_other : (a x : ℕ) (held : Bool) → eqb a a0 ≡ false → x ≡ held_by m locks p0 a → x ≡ cond (cond (eqb a a0) held (l.holds p0 a)) 1 0
     own_other a x held e same = rw e (same ∙ agree p0 known a)
 
     -- LR writes an empty entry
     took : (place : ℕ) → free_entry m locks p0 ≡ Some place → is_some (held_entry m locks p0 a0) ≡ false → (p : ℕ) → p < m.processors → (a : ℕ)
-        → held_in (set locks place (locked_at a0)) p a ≡ cond (changed p0 a0 true l p a) 1 0
-    took place free none = own_exchanged place (locked_at a0) true found.from found.to (λ a. own a (held_in (set locks place (locked_at a0)) p0 a) (seen a))
+        → held_by m (set locks place (locked_at a0)) p a ≡ cond (changed p0 a0 true l p a) 1 0
+    took place free none = own_exchanged place (locked_at a0) true found.from found.to (λ a. own a (held_by m (set locks place (locked_at a0)) p0 a) (seen a))
       where
         found : EntryAt m locks p0 (unused in_use) place
         found = entry_at m locks p0 (unused in_use) place free
 
-        seen : (a : ℕ) → held_in (set locks place (locked_at a0)) p0 a + 0 ≡ held_in locks p0 a + cond (eqb a a0) 1 0
+        seen : (a : ℕ) → held_by m (set locks place (locked_at a0)) p0 a + 0 ≡ held_by m locks p0 a + cond (eqb a a0) 1 0
         seen a =
-            ap (λ b. held_in (set locks place (locked_at a0)) p0 a + cond b 1 0) (sym (unused_seen a (get_or locks place blank_entry) found.passes))
-            ∙ exchanged p0 a place (unused in_use) (locked_at a0) found ∙ ap (λ b. held_in locks p0 a + cond b 1 0) (locked_seen a a0)
+            ap (λ b. held_by m (set locks place (locked_at a0)) p0 a + cond b 1 0) (sym (unused_seen a (get_or locks place blank_entry) found.passes))
+            ∙ exchanged p0 a place (unused in_use) (locked_at a0) found ∙ ap (λ b. held_by m locks p0 a + cond b 1 0) (locked_seen a a0)
 
         free_of : l.holds p0 a0 ≡ false
-        free_of = one_of (l.holds p0 a0) (held_in locks p0 a0) (agree p0 known a0)
-            (not_none (held_in locks p0 a0) (sym (first_counted (locks_from a0 a0) (locks_start m p0) (window_of (locks_start m p0) m.lock_entries locks)) ∙ none))
+        free_of = one_of (l.holds p0 a0) (held_by m locks p0 a0) (agree p0 known a0)
+            (not_none (held_by m locks p0 a0) (sym (first_counted (locks_from a0 a0) (locks_start m p0) (window_of (locks_start m p0) m.lock_entries locks)) ∙ none))
 
-        own : (a x : ℕ) → x + 0 ≡ held_in locks p0 a + cond (eqb a a0) 1 0 → x ≡ cond (cond (eqb a a0) true (l.holds p0 a)) 1 0
+        own : (a x : ℕ) → x + 0 ≡ held_by m locks p0 a + cond (eqb a a0) 1 0 → x ≡ cond (cond (eqb a a0) true (l.holds p0 a)) 1 0
         own a x e = elim (eqb_tells a a0) [
           | inl same ↦
-              let none : held_in locks p0 a ≡ 0 = agree p0 known a ∙ ap (λ k. cond (l.holds p0 k) 1 0) same.1 ∙ ap (λ b. cond b 1 0) free_of in
+              let none : held_by m locks p0 a ≡ 0 = agree p0 known a ∙ ap (λ k. cond (l.holds p0 k) 1 0) same.1 ∙ ap (λ b. cond b 1 0) free_of in
               let one : ◌≡◌ {A = ℕ} (cond (eqb a a0) 1 0) 1 = ap (λ b. cond b 1 0) same.0 in
               rw same.0 (omega (arith, e, none, one))
           | inr other ↦
@@ -167,22 +168,22 @@ module _ (m : Measures) (locks : List LockEntry) (fit : length locks ≡ lock_co
 
     -- a release empties the entry with its address
     gave : (place : ℕ) → held_entry m locks p0 a0 ≡ Some place → (p : ℕ) → p < m.processors → (a : ℕ)
-        → held_in (set locks place blank_entry) p a ≡ cond (changed p0 a0 false l p a) 1 0
-    gave place held = own_exchanged place blank_entry false found.from found.to (λ a. own a (held_in (set locks place blank_entry) p0 a) (seen a))
+        → held_by m (set locks place blank_entry) p a ≡ cond (changed p0 a0 false l p a) 1 0
+    gave place held = own_exchanged place blank_entry false found.from found.to (λ a. own a (held_by m (set locks place blank_entry) p0 a) (seen a))
       where
         found : EntryAt m locks p0 (locks_from a0 a0) place
         found = entry_at m locks p0 (locks_from a0 a0) place held
 
-        seen : (a : ℕ) → held_in (set locks place blank_entry) p0 a + cond (eqb a a0) 1 0 ≡ held_in locks p0 a + 0
+        seen : (a : ℕ) → held_by m (set locks place blank_entry) p0 a + cond (eqb a a0) 1 0 ≡ held_by m locks p0 a + 0
         seen a =
-            ap (λ b. held_in (set locks place blank_entry) p0 a + cond b 1 0) (sym (held_seen a a0 (get_or locks place blank_entry) found.passes))
+            ap (λ b. held_by m (set locks place blank_entry) p0 a + cond b 1 0) (sym (held_seen a a0 (get_or locks place blank_entry) found.passes))
             ∙ exchanged p0 a place (locks_from a0 a0) blank_entry found
 
-        own : (a x : ℕ) → x + cond (eqb a a0) 1 0 ≡ held_in locks p0 a + 0 → x ≡ cond (cond (eqb a a0) false (l.holds p0 a)) 1 0
+        own : (a x : ℕ) → x + cond (eqb a a0) 1 0 ≡ held_by m locks p0 a + 0 → x ≡ cond (cond (eqb a a0) false (l.holds p0 a)) 1 0
         own a x e = elim (eqb_tells a a0) [
           | inl same ↦
               let one : ◌≡◌ {A = ℕ} (cond (eqb a a0) 1 0) 1 = ap (λ b. cond b 1 0) same.0 in
-              let all = one_held (l.holds p0 a) (held_in locks p0 a) (agree p0 known a) (omega (arith, e, one)) in
+              let all = one_held (l.holds p0 a) (held_by m locks p0 a) (agree p0 known a) (omega (arith, e, one)) in
               rw same.0 (omega (arith, e, one, all))
           | inr other ↦
               let none : ◌≡◌ {A = ℕ} (cond (eqb a a0) 1 0) 0 = ap (λ b. cond b 1 0) other.0 in
@@ -190,15 +191,15 @@ module _ (m : Measures) (locks : List LockEntry) (fit : length locks ≡ lock_co
         ]
 
     released : (c : Command) → takes_lock c ≡ false → (o : Option ℕ) → held_entry m locks p0 a0 ≡ o → not (is_some o) ≡ false
-        → (p : ℕ) → p < m.processors → (a : ℕ) → held_in (locks_settled c a0 locks o) p a ≡ cond (changed p0 a0 false l p a) 1 0
+        → (p : ℕ) → p < m.processors → (a : ℕ) → held_by m (locks_settled c a0 locks o) p a ≡ cond (changed p0 a0 false l p a) 1 0
     released c takes None same h p listed a = absurd (cc)
     released c takes (Some place) same h p listed a =
-        ap (λ b. held_in (set locks place (cond b (locked_at a0) blank_entry)) p a) takes ∙ gave place same p listed a
+        ap (λ b. held_by m (set locks place (cond b (locked_at a0) blank_entry)) p a) takes ∙ gave place same p listed a
 
     -- by what the command does with locks
     settled : (c : Command) → q.command ≡ c → (takes_lock c && is_some (held_entry m locks p0 a0)) ≡ false → (takes_lock c && not (is_some (free_entry m locks p0))) ≡ false
         → (releases_lock c && not (is_some (held_entry m locks p0 a0))) ≡ false → (p : ℕ) → p < m.processors → (a : ℕ)
-        → held_in (locks_settled c a0 locks (entry_used m locks q)) p a ≡ cond (held_after c p0 a0 l p a) 1 0
+        → held_by m (locks_settled c a0 locks (entry_used m locks q)) p a ≡ cond (held_after c p0 a0 l p a) 1 0
     settled R e x y z p listed a = rw e (agree p listed a)
     settled (W word) e x y z p listed a = rw e (agree p listed a)
     settled (DW word) e x y z p listed a = rw e (agree p listed a)
@@ -207,25 +208,25 @@ module _ (m : Measures) (locks : List LockEntry) (fit : length locks ≡ lock_co
     settled RB e x y z p listed a = rw e (agree p listed a)
     settled LR e x y z p listed a = rw e (by_free (free_entry m locks p0) refl y)
       where
-        by_free : (o : Option ℕ) → free_entry m locks p0 ≡ o → not (is_some o) ≡ false → held_in (locks_settled LR a0 locks o) p a ≡ cond (changed p0 a0 true l p a) 1 0
+        by_free : (o : Option ℕ) → free_entry m locks p0 ≡ o → not (is_some o) ≡ false → held_by m (locks_settled LR a0 locks o) p a ≡ cond (changed p0 a0 true l p a) 1 0
         by_free None same h = absurd (cc)
         by_free (Some place) same h = took place same x p listed a
     settled (UW word) e x y z p listed a = rw e (released (UW word) refl (held_entry m locks p0 a0) refl z p listed a)
     settled U e x y z p listed a = rw e (released U refl (held_entry m locks p0 a0) refl z p listed a)
 
 module _ (m : Measures) (ps : List Processor) (lines : List Line) (locks : List LockEntry) (mem : Mem) (q : Request) (l : Ledger)
-    (fit : length locks ≡ lock_count m) (agree : (p : ℕ) → p < m.processors → (a : ℕ) → held_in m locks fit locks p a ≡ cond (l.holds p a) 1 0) where
+    (agree : (p : ℕ) → p < m.processors → (a : ℕ) → held_by m locks p a ≡ cond (l.holds p a) 1 0) where
   pub holds_kept : (o : Outcome) → Shape m ps lines locks mem q o → (p : ℕ) → p < m.processors → (a : ℕ)
-      → held_in m locks fit o.locks p a ≡ cond ((command_fed q o.answer l).holds p a) 1 0
+      → held_by m o.locks p a ≡ cond ((command_fed q o.answer l).holds p a) 1 0
   holds_kept o (refused e is) p listed a =
-      ap (λ x. held_in m locks fit x.locks p a) is ∙ agree p listed a ∙ ap (λ x. cond ((command_fed q x.answer l).holds p a) 1 0) (sym is)
+      ap (λ x. held_by m x.locks p a) is ∙ agree p listed a ∙ ap (λ x. cond ((command_fed q x.answer l).holds p a) 1 0) (sym is)
   holds_kept o (waited w) p listed a =
-      ap (λ x. held_in m locks fit x.locks p a) w.is ∙ kept_waited m locks fit w.case.processor w.case.block p a ∙ agree p listed a
+      ap (λ x. held_by m x.locks p a) w.is ∙ kept_waited m locks w.case.processor w.case.block p a ∙ agree p listed a
       ∙ ap (λ x. cond ((command_fed q x.answer l).holds p a) 1 0) (sym w.is)
   holds_kept o (finished f) p listed a =
       let facts = f.facts in
-      ap (λ x. held_in m locks fit x.locks p a) f.is
-      ∙ ap (λ c. held_in m locks fit (locks_settled c.command c.address locks c.entry) p a) facts.is
-      ∙ settled m locks fit q l (leb-false m.processors q.processor facts.known) agree q.command refl facts.not_held facts.room facts.held p listed a
+      ap (λ x. held_by m x.locks p a) f.is
+      ∙ ap (λ c. held_by m (locks_settled c.command c.address locks c.entry) p a) facts.is
+      ∙ settled m locks q l (leb-false m.processors q.processor facts.known) agree q.command refl facts.not_held facts.room facts.held p listed a
       ∙ ap (λ h. cond h 1 0) (sym (done_holds l q.command q.processor q.address (ul_sent f.case.command locks f.case.entry) p a))
       ∙ ap (λ x. cond ((command_fed q x.answer l).holds p a) 1 0) (sym f.is)

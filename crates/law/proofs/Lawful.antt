@@ -20,8 +20,8 @@ use Rattle.law.proofs.Copied.{copy_valid}
 use Rattle.law.proofs.Doing.{done}
 use Rattle.law.proofs.Drained.{rule_length, rule_homed, rule_coherent, rule_holder, rule_four, drains_law}
 use Rattle.law.proofs.Invariant.{at_in, copy}
-use Rattle.law.proofs.LocksKept.{no_other_holder}
-use Rattle.law.proofs.LocksOn.{OwnFound, LocksHold, locks_on, waits_on_locks, new_locks_hold}
+use Rattle.law.proofs.LocksKept.{OwnFound, no_other_holder}
+use Rattle.law.proofs.LocksOn.{LocksHold, locks_on, waits_on_locks, new_locks_hold}
 use Rattle.law.proofs.Marked.{wakes_law}
 use Rattle.law.proofs.Places.{found_at}
 use Rattle.law.proofs.Shapes.{Shape, refused, waited, finished, shape}

@@ -11,6 +11,7 @@ pub mod Drained
 pub mod Shapes
 pub mod Unchanged
 pub mod Awaits
+pub mod Lowest
 pub mod Windows
 pub mod Entries
 pub mod Holds

@@ -15,11 +15,8 @@ use Rattle.law.specs.Calls.{Board}
 use Rattle.law.specs.Law.{locks_in, locked_by_other}
 use Rattle.law.specs.Ledger.{Ledger, block_of}
 use Rattle.law.proofs.Entries.{EntryAt, entry_at, entry_found, locks_at, at_its_address}
+use Rattle.law.proofs.Lowest.{the_some, lowest_same}
 use Rattle.law.proofs.Told.{Kept, accounts}
-
-pub the_some : {X : Type 0} (o : Option X) → is_some o ≡ true → (x : X) × (o ≡ Some x)
-the_some None h = absurd (cc)
-the_some (Some x) h = (x, refl)
 
 -- an address lies in its block
 in_block : (block a : ℕ) → (leb (4 * block) a && leb a (4 * block + 3)) ≡ true → block_of a ≡ block
@@ -87,12 +84,6 @@ blocked_at block e h = by_use (in_use e) refl h
     by_use : (b : Bool) → in_use e ≡ b → (b && leb (4 * block) e.address && leb e.address (4 * block + 3)) ≡ true → (in_use e ≡ true) × (block_of e.address ≡ block)
     by_use true used h = (used, in_block block e.address h)
     by_use false used h = absurd (cc)
-
--- two searches with tests that agree
-lowest_same : (t u : ℕ → Bool) (count from : ℕ) → ((j : ℕ) → from ≤ j → j < from + count → t j ≡ u j) → lowest_from t from count ≡ lowest_from u from count
-lowest_same t u zero from same = refl
-lowest_same t u (suc count) from same =
-    (λ i. cond (same from (omega arith) (omega arith) i) (Some from) (lowest_same t u count (from + 1) (λ j low high. same j (omega (arith, low)) (omega (arith, high))) i))
 
 -- the locks of the table and of the ledger
 module _ (m : Measures) (b : Board) (l : Ledger) (k : Kept m b l) where

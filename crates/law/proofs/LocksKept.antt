@@ -1,5 +1,5 @@
 -- No two processors hold locks in one block, and WAIT is answered exactly where another holds one.
-use Rattle.std.proofs.Common.{◌≡◌, ℕ, ◌/◌, ◌<◌, Bool, true, false, cond, not, ◌&&◌, ◌||◌, eqb, leb, ◌⊎◌, is_some, Some, None, Option, sym, refl, ap, ◌∙◌, subst, inl, inr, arith}
+use Rattle.std.proofs.Common.{◌≡◌, ℕ, ◌/◌, ◌<◌, Bool, true, false, cond, not, ◌&&◌, ◌||◌, eqb, leb, ◌⊎◌, List, is_some, Some, None, Option, sym, refl, ap, ◌∙◌, subst, inl, inr, arith}
 use Prim.{tt}
 use Rattle.std.proofs.lemmas.Bool.{false≢true, cond_both, false_from_ne_true, leb-false}
 use Rattle.std.proofs.lemmas.Bool.Decides.{eqb_tells, nat_tests}
@@ -8,15 +8,17 @@ use Rattle.protocol.specs.declared.command.Action.TheVariants as action
 use Rattle.protocol.specs.declared.command.Command.{Command}
 use Rattle.protocol.specs.declared.command.Command.TheVariants.{R, W, DW, RI, RP, RB, LR, UW, U}
 use Rattle.protocol.specs.declared.command.Request.{Request}
+use Rattle.protocol.specs.declared.line.Line.{Line}
+use Rattle.protocol.specs.declared.lock.LockEntry.{LockEntry}
 use Rattle.protocol.specs.declared.measures.Measures.{Measures}
 use Rattle.protocol.specs.declared.state.State.{State}
 use Rattle.protocol.specs.declared.state.State.TheVariants.{I, S, SM, EC, EM}
 use Rattle.protocol.specs.declared.table.Effect.{Effect}
 use Rattle.protocol.specs.Acting.{at_start, at_last, acts_as}
 use Rattle.protocol.specs.Entries.{valid}
-use Rattle.protocol.specs.Finding.{lowest_from}
 use Rattle.protocol.specs.StateTable.{cell_of}
-use Rattle.protocol.proofs.Finding.{Lowest, lowest_tells, lowest_none}
+use Rattle.memory.specs.Meaning.{Mem}
+use Rattle.cluster.specs.declared.cluster.Processor.{Processor}
 use Rattle.cluster.specs.Copies.{line_of, line_at, supplier_of}
 use Rattle.cluster.specs.Doing.{asks_for_block, lock_hit, is_unlock}
 use Rattle.cluster.specs.Locks.{held_entry, holder_of}
@@ -26,25 +28,23 @@ use Rattle.cluster.specs.Settling.{takes_lock, releases_lock, ul_sent}
 use Rattle.law.specs.Calls.{Board}
 use Rattle.law.specs.Law.{WaitsIf, owner, locks_in, locked_by_other}
 use Rattle.law.specs.Ledger.{Ledger, block_of, command_fed, done_by}
+use Rattle.law.proofs.Cells.{acts_unlock}
 use Rattle.law.proofs.Holds.{Lock, older, newer, lock_after}
 use Rattle.law.proofs.Invariant.{at_in, copy, HolderAlone, OneHolder}
 use Rattle.law.proofs.LockLaw.{address_in, block_in, held_is, holder_is}
-use Rattle.law.proofs.Shapes.{Shape, refused, waited, finished, Finished}
+use Rattle.law.proofs.Lowest.{none_other, no_other}
+use Rattle.law.proofs.Shapes.{Shape, refused, waited, finished, Waited, Finished}
 use Rattle.law.proofs.Told.{Kept}
 
 -- only processors of the geometry hold locks
 abbrev pub HoldersListed : Measures → Ledger → Type 0
 HoldersListed m l = (p a : ℕ) → l.holds p a ≡ true → p < m.processors
 
-pub some_passes : (t : ℕ → Bool) (n j : ℕ) → j < n → t j ≡ true → is_some (lowest_from t 0 n) ≡ true
-some_passes t n j low e = by_found (lowest_from t 0 n) (lowest_tells t n 0)
-  where
-    by_found : (o : Option ℕ) → Lowest t 0 n o → is_some o ≡ true
-    by_found None none = absurd (false≢true (sym (none j (omega arith) (omega (arith, low))) ∙ e))
-    by_found (Some i) h = refl
-
-none_passes : (t : ℕ → Bool) (n j : ℕ) → j < n → is_some (lowest_from t 0 n) ≡ false → t j ≡ false
-none_passes t n j low e = false_from_ne_true (t j) (λ h. false≢true (sym e ∙ some_passes t n j low h))
+-- the own copy that a command finds stands in its own cache
+abbrev pub OwnFound : Measures → Board → Type 0
+OwnFound m b =
+    (q : Request) → q.processor < m.processors → valid (line_at b.lines (line_of m b.lines q.processor (q.address / 4))).state ≡ true
+    → (i : ℕ) × copy (at_in b.lines) (q.address / 4) i × (owner m i ≡ q.processor)
 
 -- a cell that sends neither F, FI nor LK is of a copy that is there, of DW or of U
 abbrev guarded : Option Effect → Bool
@@ -65,29 +65,22 @@ each_cell action.LR I = refl
 each_cell action.UW I = refl
 each_cell action.U I = refl
 
-unlocks : (c : Command) (a : ℕ) (s : State) (elsewhere : Bool) → is_unlock (acts_as c a s elsewhere) ≡ true → releases_lock c ≡ true
-unlocks R a s elsewhere h = h
-unlocks (W word) a s elsewhere h = h
-unlocks (DW word) a s elsewhere h = cond_both (at_start a) action.DW action.W (λ x. is_unlock x ≡ true → false ≡ true) (λ e x. x) (λ e x. x) h
-unlocks RI a s elsewhere h = h
-unlocks RP a s elsewhere h = h
-unlocks RB a s elsewhere h =
-    cond_both (at_last a) action.RP _ (λ x. is_unlock x ≡ true → false ≡ true) (λ e x. x)
-    (λ e. cond_both (not (valid s) && elsewhere) action.RI action.R (λ x. is_unlock x ≡ true → false ≡ true) (λ e x. x) (λ e x. x)) h
-unlocks LR a s elsewhere h = h
-unlocks (UW word) a s elsewhere h = refl
-unlocks U a s elsewhere h = refl
-
 -- what a lock hit tells of the holder
 no_hit : (asks lk : Bool) (holder : Option ℕ) → cond asks holder (cond lk holder None) ≡ None → (asks || lk) ≡ true → is_some holder ≡ false
 no_hit true lk holder e g = ap is_some e
 no_hit false true holder e g = ap is_some e
 no_hit false false holder e g = absurd (cc)
 
-pub hit_by : (asks lk : Bool) (holder : Option ℕ) (p : ℕ) → cond asks holder (cond lk holder None) ≡ Some p → is_some holder ≡ true
+hit_by : (asks lk : Bool) (holder : Option ℕ) (p : ℕ) → cond asks holder (cond lk holder None) ≡ Some p → is_some holder ≡ true
 hit_by true lk holder p e = ap is_some e
 hit_by false true holder p e = ap is_some e
 hit_by false false holder p e = absurd (cc)
+
+pub held_elsewhere : (m : Measures) (ps : List Processor) (lines : List Line) (locks : List LockEntry) (mem : Mem) (q : Request) (o : Outcome)
+    → Waited m ps lines locks mem q o → is_some (holder_of m locks q.processor (q.address / 4)) ≡ true
+held_elsewhere m ps lines locks mem q o w =
+    let effect = w.facts.effect in
+    hit_by (asks_for_block effect.bus) effect.lk (holder_of m locks q.processor (q.address / 4)) w.blocker (sym (ap lock_hit w.facts.is) ∙ w.hit)
 
 not_elsewhere : (d v c h : Bool) → (d && not v && (c || h)) ≡ false → d ≡ true → v ≡ false → h ≡ false
 not_elsewhere true false true h e x y = absurd (cc)
@@ -101,8 +94,7 @@ has_it true false e x = absurd (cc)
 has_it false h e x = absurd (cc)
 
 module _ (m : Measures) (b : Board) (l : Ledger) (k : Kept m b l) (one : OneHolder l) (alone : HolderAlone m (at_in b.lines) l) (listed : HoldersListed m l)
-    (own : (q : Request) → q.processor < m.processors → valid (line_at b.lines (line_of m b.lines q.processor (q.address / 4))).state ≡ true
-    → (i : ℕ) × copy (at_in b.lines) (q.address / 4) i × (owner m i ≡ q.processor)) (q : Request) where
+    (own : OwnFound m b) (q : Request) where
   abbrev holder : Option ℕ
   holder = holder_of m b.locks q.processor (q.address / 4)
 
@@ -124,7 +116,7 @@ module _ (m : Measures) (b : Board) (l : Ledger) (k : Kept m b l) (one : OneHold
         by_cell (valid found) (is_direct_write acts) (is_unlock acts) (asks_for_block effect.bus || effect.lk) refl refl refl cell
         (not_elsewhere (is_direct_write acts) (valid found) _ (is_some holder) facts.alone)
         (λ u. sym (held_is m b l k q.processor q.address low)
-        ∙ has_it (releases_lock q.command) (is_some (held_entry m b.locks q.processor q.address)) facts.held (unlocks q.command q.address found _ u))
+        ∙ has_it (releases_lock q.command) (is_some (held_entry m b.locks q.processor q.address)) facts.held (ap releases_lock (acts_unlock q.address found _ q.command u)))
         (no_hit (asks_for_block effect.bus) effect.lk holder hit)
       where
         by_cell : (v d u g : Bool) → valid found ≡ v → is_direct_write acts ≡ d → is_unlock acts ≡ u → (v || (d || (u || g))) ≡ true
@@ -142,22 +134,15 @@ module _ (m : Measures) (b : Board) (l : Ledger) (k : Kept m b l) (one : OneHold
       | inl there ↦
           let (i, stands, mine) = own q (leb-false m.processors q.processor f.facts.known) there in
           sym (alone p a i h (subst (λ x. copy (at_in b.lines) x i) (sym same) stands)) ∙ mine
-      | inr (inl none) ↦ elim (eqb_tells p q.processor) [
-        | inl is ↦ is.1
-        | inr other ↦
-            let free = none_passes (λ j. not (eqb j q.processor) && locks_in l (block_of q.address) j) m.processors p (listed p a h) (sym (holder_is m b l k q.processor (block_of q.address)) ∙ none) in
-            absurd (false≢true (sym free ∙ (rw (other.0, block_in l (block_of q.address) p a same h) refl)))
-      ]
+      | inr (inl none) ↦
+          none_other (locks_in l (block_of q.address)) q.processor m.processors (sym (holder_is m b l k q.processor (block_of q.address)) ∙ none)
+          p (listed p a h) (block_in l (block_of q.address) p a same h)
       | inr (inr mine) ↦ one q.processor p q.address a mine h (sym same)
     ]
 
     no_other_lock : locked_by_other m l q.processor (block_of q.address) ≡ false
-    no_other_lock = ap is_some (lowest_none (λ j. not (eqb j q.processor) && locks_in l (block_of q.address) j) m.processors 0 (λ j low high. elim (eqb_tells j q.processor) [
-      | inl is ↦ rw is.0 refl
-      | inr other ↦
-          rw other.0 (false_from_ne_true (locks_in l (block_of q.address) j)
-          (λ e. let (a, same, held) = address_in l (block_of q.address) j e in other.1 (no_other_holder j a held same)))
-    ]))
+    no_other_lock = no_other (locks_in l (block_of q.address)) q.processor m.processors
+        (λ j low e. let (a, same, held) = address_in l (block_of q.address) j e in no_other_holder j a held same)
 
     abbrev after : Ledger
     after = done_by q.processor q.address (ul_sent f.case.command b.locks f.case.entry) q.command l
@@ -187,8 +172,7 @@ module _ (m : Measures) (b : Board) (l : Ledger) (k : Kept m b l) (one : OneHold
   pub waits_law : (o : Outcome) → Shape m b.processors b.lines b.locks b.memory q o → WaitsIf (locked_by_other m l q.processor (block_of q.address)) o.answer
   waits_law o (refused e is) = subst (λ x. WaitsIf (locked_by_other m l q.processor (block_of q.address)) x.answer) (sym is) tt
   waits_law o (waited w) =
-      let effect = w.facts.effect in
-      let hit : is_some holder ≡ true = hit_by (asks_for_block effect.bus) effect.lk holder w.blocker (sym (ap lock_hit w.facts.is) ∙ w.hit) in
+      let hit = held_elsewhere m b.processors b.lines b.locks b.memory q o w in
       subst (λ x. WaitsIf (locked_by_other m l q.processor (block_of q.address)) x.answer) (sym w.is)
       (sym (holder_is m b l k q.processor (block_of q.address)) ∙ hit)
   waits_law o (finished f) = subst (λ x. WaitsIf (locked_by_other m l q.processor (block_of q.address)) x.answer) (sym f.is) (no_other_lock o f)

@@ -10,16 +10,10 @@ use Rattle.law.specs.Calls.{Call, command, drain, census, question, Board, comma
 use Rattle.law.specs.Law.{WaitsIf, owner, locked_by_other}
 use Rattle.law.specs.Ledger.{Ledger, block_of, opened, fed}
 use Rattle.law.proofs.Invariant.{at_in, copy, HolderAlone, OneHolder, AllMarked}
-use Rattle.law.proofs.LocksKept.{HoldersListed, one_kept, listed_kept, waits_law}
+use Rattle.law.proofs.LocksKept.{HoldersListed, OwnFound, one_kept, listed_kept, waits_law}
 use Rattle.law.proofs.Marked.{marked_kept, new_one_holder, new_marked, new_listed}
 use Rattle.law.proofs.Shapes.{shape}
 use Rattle.law.proofs.Told.{Kept, new_kept, kept_on}
-
--- the own copy that a command finds stands in its own cache
-abbrev pub OwnFound : Measures → Board → Type 0
-OwnFound m b =
-    (q : Request) → q.processor < m.processors → valid (line_at b.lines (line_of m b.lines q.processor (q.address / 4))).state ≡ true
-    → (i : ℕ) × copy (at_in b.lines) (q.address / 4) i × (owner m i ≡ q.processor)
 
 pub record LocksHold (m : Measures) (b : Board) (l : Ledger) : Type 0 where
   pub kept : Kept m b l

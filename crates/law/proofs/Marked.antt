@@ -15,7 +15,6 @@ use Rattle.protocol.specs.declared.refusal.Refusal.{Refusal}
 use Rattle.protocol.specs.Entries.{locked as entry_locked}
 use Rattle.protocol.specs.Finding.{unused}
 use Rattle.protocol.specs.Places.{locks_start}
-use Rattle.protocol.proofs.Finding.{Lowest, lowest_tells}
 use Rattle.memory.specs.Meaning.{Mem}
 use Rattle.cluster.specs.Doing.{asks_for_block, lock_hit}
 use Rattle.cluster.specs.Locks.{in_use, locks_from, locks_block, entry_of, held_entry, free_entry, has_lock, other_lock, holder_of, own_entry, waited_at, waited_for, waits_on, somebody_waits}
@@ -30,8 +29,9 @@ use Rattle.law.specs.Ledger.{Ledger, block_of, opened, waits_in, command_fed, do
 use Rattle.law.proofs.Awaits.{wake, done_waits, ul_quiet}
 use Rattle.law.proofs.Entries.{entry_at, locks_at}
 use Rattle.law.proofs.Invariant.{OneHolder, Marked, AllMarked}
-use Rattle.law.proofs.LockLaw.{the_some, blocked_at, block_in, entry_holds}
-use Rattle.law.proofs.LocksKept.{HoldersListed, some_passes, hit_by}
+use Rattle.law.proofs.LockLaw.{blocked_at, block_in, entry_holds}
+use Rattle.law.proofs.LocksKept.{HoldersListed, held_elsewhere}
+use Rattle.law.proofs.Lowest.{the_some, some_passes, other_found}
 use Rattle.law.proofs.Shapes.{Shape, refused, waited, finished, shape}
 use Rattle.law.proofs.Told.{Kept, kept_on}
 use Rattle.law.proofs.Windows.{apart, length-map, get_or-map}
@@ -108,7 +108,10 @@ module _ (m : Measures) (locks : List LockEntry) (asking block : ℕ) where
 
   -- the one that asks waits for the holder's entry
   newly_marked : is_some (holder_of m locks asking block) ≡ true → Marked (waited_for m locks asking block) block
-  newly_marked h = by_found (holder_of m locks asking block) (lowest_tells (other_lock m locks asking block) m.processors 0) h
+  newly_marked h =
+      let (p, at) = the_some (holder_of m locks asking block) h in
+      let other = other_found (has_lock m locks block) asking m.processors p at in
+      by_entry p other.1 other.2
     where
       by_entry : (p : ℕ) → (p ≡ asking → ⊥) → has_lock m locks block p ≡ true → Marked (waited_for m locks asking block) block
       by_entry p other has =
@@ -120,13 +123,6 @@ module _ (m : Measures) (locks : List LockEntry) (asking block : ℕ) where
           mark_at i block found.inside
           (ap (λ t. somebody_waits (cond t (record { state = LW; address = e.address }) e)) test)
           (ap (λ t. block_of (cond t (record { state = LW; address = e.address }) e).address) test ∙ tells.1)
-
-      by_found : (o : Option ℕ) → Lowest (other_lock m locks asking block) 0 m.processors o → is_some o ≡ true → Marked (waited_for m locks asking block) block
-      by_found None none s = absurd (cc)
-      by_found (Some p) tells s = elim (eqb_tells p asking) [
-        | inl same ↦ absurd (false≢true (rw same.0 at tells.2))
-        | inr other ↦ by_entry p other.1 (rw other.0 at tells.2)
-      ]
 
 -- a processor that waits still after UL waits for another block
 still_waits : (u : Bool) (block to : ℕ) (w : Option ℕ) → cond u (wake block w) w ≡ Some to → (w ≡ Some to) × (u ≡ true → to ≡ block → ⊥)
@@ -203,8 +199,7 @@ module _ (m : Measures) (b : Board) (l : Ledger) (marked : AllMarked b.locks l) 
   pub marked_kept : (o : Outcome) → Shape m b.processors b.lines b.locks b.memory q o → AllMarked o.locks (command_fed q o.answer l)
   marked_kept o (refused e is) = subst (λ x. AllMarked x.locks (command_fed q x.answer l)) (sym is) marked
   marked_kept o (waited w) =
-      let effect = w.facts.effect in
-      let hit = hit_by (asks_for_block effect.bus) effect.lk (holder_of m b.locks q.processor block) w.blocker (sym (ap lock_hit w.facts.is) ∙ w.hit) in
+      let hit = held_elsewhere m b.processors b.lines b.locks b.memory q o w in
       subst (λ x. AllMarked x.locks (command_fed q x.answer l)) (sym w.is)
       (λ r to e. subst (λ c. Marked (waited_for m b.locks c.processor c.block) to) (sym w.facts.is) (marked_waiting hit r to e))
   marked_kept o (finished f) =

@@ -12,11 +12,11 @@ use Rattle.protocol.specs.Entries.{valid}
 use Rattle.protocol.specs.Finding.{first_in, window_of}
 use Rattle.protocol.specs.Lines.{no_line}
 use Rattle.protocol.specs.Places.{line_count, window_start}
-use Rattle.protocol.proofs.Finding.{first_from, Lowest, lowest_tells}
-use Rattle.cluster.specs.Copies.{holds_block, line_of, other_copy, supplier_of}
+use Rattle.cluster.specs.Copies.{holds_block, line_of, has_copy, supplier_of}
 use Rattle.law.specs.Law.{owner}
 use Rattle.law.proofs.Copied.{copy_valid, copy_block}
 use Rattle.law.proofs.Invariant.{at_in, copy, Home, Homed}
+use Rattle.law.proofs.Lowest.{the_some, other_found, none_other}
 use Rattle.law.proofs.Windows.{stands, none_stands}
 
 -- the copy that a cache's search found
@@ -93,31 +93,17 @@ module _ (m : Measures) (some_columns : 0 < m.columns) where
 
       pub supplier_some : (asking block p : ℕ) → supplier_of m lines asking block ≡ Some p → Supplying m lines asking block p
       supplier_some asking block p e =
-          let found = subst (Lowest (other_copy m lines asking block) 0 m.processors) e (lowest_tells (other_copy m lines asking block) m.processors 0) in
-          let both = other_tells (eqb p asking) (line_of m lines p block) found.2 in
-          record {
-            listed = let low = found.1 in omega (arith, low);
-            other = λ same. false≢true (sym both.0 ∙ eq-eqb p asking same);
-            place = both.1;
-            found = both.2;
-          }
-        where
-          other_tells : (b : Bool) (o : Option ℕ) → (not b && is_some o) ≡ true → (b ≡ false) × (i : ℕ) × (o ≡ Some i)
-          other_tells true o h = absurd (cc)
-          other_tells false None h = absurd (cc)
-          other_tells false (Some i) h = (refl, i, refl)
+          let found = other_found (has_copy m lines block) asking m.processors p e in
+          let (place, at) = the_some (line_of m lines p block) found.2 in
+          record { listed = found.0; other = found.1; place = place; found = at }
 
       pub supplier_none : (asking block : ℕ) → supplier_of m lines asking block ≡ None → (i : ℕ) → copy (at_in lines) block i → owner m i ≡ asking
       supplier_none asking block e i here =
-          let none = subst (Lowest (other_copy m lines asking block) 0 m.processors) e (lowest_tells (other_copy m lines asking block) m.processors 0) in
-          let home = copy_home block i here in
-          let listed = home.listed in
-          let fails = none (owner m i) (omega arith) (omega (arith, listed)) in
-          by_asking (eqb_tells (owner m i) asking) (line_of m lines (owner m i) block) refl fails
+          none_other (has_copy m lines block) asking m.processors (ap is_some e) (owner m i) home.listed (by_place (line_of m lines (owner m i) block) refl)
         where
-          by_asking : ((eqb (owner m i) asking ≡ true) × (owner m i ≡ asking)) ⊎ ((eqb (owner m i) asking ≡ false) × (owner m i ≡ asking → ⊥))
-              → (o : Option ℕ) → line_of m lines (owner m i) block ≡ o → (not (eqb (owner m i) asking) && is_some o) ≡ false → owner m i ≡ asking
-          by_asking (inl same) o is h = same.1
-          by_asking (inr other) None is h =
-              absurd (found_none (owner m i) block (let home = copy_home block i here in home.listed) is i here refl)
-          by_asking (inr other) (Some place) is h = absurd (false≢true (sym h ∙ ap (λ b. not b && true) other.0))
+          home : Home m block i
+          home = copy_home block i here
+
+          by_place : (o : Option ℕ) → line_of m lines (owner m i) block ≡ o → is_some o ≡ true
+          by_place None is = absurd (found_none (owner m i) block home.listed is i here refl)
+          by_place (Some place) is = refl

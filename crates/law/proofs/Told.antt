@@ -24,7 +24,7 @@ use Rattle.law.specs.Accounts.{Accounts, Throughout, new_board, LocksAreTold}
 use Rattle.law.specs.Calls.{Call, command, drain, census, question, Board, command_on, said_by, left_by}
 use Rattle.law.specs.Ledger.{Ledger, opened, fed}
 use Rattle.law.proofs.Awaits.{waits_kept}
-use Rattle.law.proofs.Holds.{holds_kept}
+use Rattle.law.proofs.Holds.{held_by, holds_kept}
 use Rattle.law.proofs.Shapes.{Shape, refused, waited, finished, shape}
 use Rattle.law.proofs.Windows.{first_counted, length-map}
 use Rattle.std.specs.List.{count_by}
@@ -58,9 +58,6 @@ module _ (m : Measures) (ps : List Processor) (lines : List Line) (locks : List 
   processors_long o (waited w) = ap (λ x. length x.processors) w.is ∙ length-set ps w.case.processor _
   processors_long o (finished f) = ap (λ x. length x.processors) f.is ∙ length_processors m ps locks f.case (way_taken m ps lines f.case)
 
-abbrev pub held_by : Measures → List LockEntry → ℕ → ℕ → ℕ
-held_by m locks p a = count_by (locks_from a a) (window_of (locks_start m p) m.lock_entries locks)
-
 -- what is kept from call to call
 pub record Kept (m : Measures) (b : Board) (l : Ledger) : Type 0 where
   pub eight : length b.processors ≡ 8
@@ -86,7 +83,7 @@ kept_on m b l few k (command q) =
       eight = processors_long m b.processors b.lines b.locks b.memory q o way ∙ k.eight;
       fit = locks_long m b.processors b.lines b.locks b.memory q o way ∙ k.fit;
       waits = waits_kept m b.processors b.lines b.locks b.memory q l k.eight few k.waits o way;
-      held = holds_kept m b.processors b.lines b.locks b.memory q l k.fit k.held o way;
+      held = holds_kept m b.processors b.lines b.locks b.memory q l k.held o way;
     }
 kept_on m b l few k drain = record { eight = k.eight; fit = k.fit; waits = k.waits; held = k.held }
 kept_on m b l few k census = k
