@@ -29,7 +29,7 @@ use Rattle.cluster.specs.Ways.{taken_way}
 use Rattle.law.specs.Law.{OnDone, owner, reads}
 use Rattle.law.specs.Ledger.{Ledger, block_of, command_fed, done_by}
 use Rattle.law.proofs.Cells.{acts_reads, acts_unlock, unlock_quiet}
-use Rattle.law.proofs.Copied.{copy_from, modified_valid}
+use Rattle.law.proofs.Copied.{words_four}
 use Rattle.law.proofs.Doing.{Done, taken_with}
 use Rattle.law.proofs.Hits as hits
 use Rattle.law.proofs.Holds.{Lock, older, newer, lock_after}
@@ -39,7 +39,7 @@ use Rattle.law.proofs.Misses as misses
 use Rattle.law.proofs.Moving.{Moved, before, same_after, homed_after}
 use Rattle.law.proofs.Owning.{Only}
 use Rattle.law.proofs.Placing.{length_seen}
-use Rattle.law.proofs.Replacing.{homed_replaced, holder_replaced, swapped, given_back}
+use Rattle.law.proofs.Replacing.{homed_replaced, holder_replaced, swapped, given_back, given_four}
 use Rattle.law.proofs.Shapes.{found, action_of}
 use Rattle.law.proofs.Words.{answered_is, done_words, fresh, tied_same}
 
@@ -86,11 +86,7 @@ module _ (m : Measures) (some_columns : 0 < m.columns) (some_ways : 0 < m.ways) 
 
   -- a victim's words are four too
   victim_four : (k b : ℕ) → length (given_back (at_in lines) k mem.words b) ≡ 4
-  victim_four k b =
-      cond_both (modified (at_in lines k).state && eqb b (at_in lines k).block) (at_in lines k).words (mem.words b) (λ (x : List ℕ). length x ≡ 4)
-      (λ h. ap length (coherent.agree (at_in lines k).block k (copy_from (at_in lines k).block (at_in lines k) (modified_valid (at_in lines k).state (and_parts _ _ h).0) refl))
-      ∙ was.truth.tied.four (at_in lines k).block)
-      (λ h. was.four b)
+  victim_four k = given_four (at_in lines) k mem.words (words_four (at_in lines) mem.words truth coherent was.truth.tied.four k) was.four
 
   module _ (o : Outcome) (d : Done m ps lines locks mem q o) (mine : (p a : ℕ) → l.holds p a ≡ true → block_of a ≡ block → p ≡ q.processor) where
     abbrev ul : Bool

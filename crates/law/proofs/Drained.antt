@@ -14,9 +14,9 @@ use Rattle.upkeep.specs.declared.drain.Drained.{Drained}
 use Rattle.upkeep.specs.Counting.{lines_fit}
 use Rattle.upkeep.specs.Draining.{Drain, DrainOutcome, behind, written_back, memory_back, unless_stopped, drain_from, costed, drain_rule}
 use Rattle.law.specs.Ledger.{Ledger, block_of, word_at}
-use Rattle.law.proofs.Copied.{copy_valid, copy_from, modified_valid}
+use Rattle.law.proofs.Copied.{copy_valid, words_four}
 use Rattle.law.proofs.Invariant.{at_in, Coherent, Homed, Tied, HolderAlone}
-use Rattle.law.proofs.Replacing.{Fewer, homed_fewer, holder_fewer, without, given_back, replaced, granted_write}
+use Rattle.law.proofs.Replacing.{Fewer, homed_fewer, holder_fewer, without, without_elsewhere, given_back, given_four, replaced, granted_write}
 
 abbrev is_finished : {X : Type 0} → Result X Refusal → Bool
 is_finished (Ok x) = true
@@ -140,7 +140,7 @@ blank_at j lines = sym (passed_blank j blank_line lines) ∙ (λ i k. at_place k
       | inl here ↦
           ap (λ b. cond b blank_line (from_place j (blank_line ∷ lines) k)) here.0
           ∙ sym (ap (from_place j (blank_line ∷ lines)) here.1 ∙ at_first j blank_line lines)
-      | inr other ↦ ap (λ b. cond b blank_line (from_place j (blank_line ∷ lines) k)) other.0
+      | inr other ↦ without_elsewhere (from_place j (blank_line ∷ lines)) j k other.1
     ]
 
 from_start : (lines : List Line) → from_place 0 lines ≡ at_in lines
@@ -196,12 +196,6 @@ module _ (truth : ℕ → List ℕ) where
 FourEach : List Line → Type 0
 FourEach lines = (i : ℕ) → valid (at_in lines i).state ≡ true → length (at_in lines i).words ≡ 4
 
-back_four : (line : Line) (words : ℕ → List ℕ) → (valid line.state ≡ true → length line.words ≡ 4) → ((b : ℕ) → length (words b) ≡ 4)
-    → (b : ℕ) → length (given_back (λ k. line) 0 words b) ≡ 4
-back_four line words has all b =
-    cond_both (modified line.state && eqb b line.block) line.words (words b) (λ (x : List ℕ). length x ≡ 4)
-    (λ h. has (modified_valid line.state (and_parts _ _ h).0)) (λ h. all b)
-
 drained_four : (blocks : ℕ) (lines : List Line) (mem : Mem) → FourEach lines → ((b : ℕ) → length (mem.words b) ≡ 4)
     → (b : ℕ) → length ((drain_from blocks lines mem).memory.words b) ≡ 4
 unfolding FourEach
@@ -215,7 +209,7 @@ drained_four blocks (line ∷ lines) mem each all =
     by_step (stopped e is) rest = subst (λ d. (b : ℕ) → length (d.memory.words b) ≡ 4) (sym is) all
     by_step (went n words is) rest =
         subst (λ d. (b : ℕ) → length (d.memory.words b) ≡ 4) (sym is)
-        (rest n (subst (λ w. (b : ℕ) → length (w b) ≡ 4) (sym words) (back_four line mem.words (each zero) all)))
+        (rest n (subst (λ w. (b : ℕ) → length (w b) ≡ 4) (sym words) (given_four (λ k. line) 0 mem.words (each zero) all)))
 
 module _ (m : Measures) (blocks : ℕ) (lines : List Line) (mem : Mem) where
   pub drained_homed : Homed m (at_in lines) → Homed m (at_in (drain_from blocks lines mem).lines)
@@ -265,8 +259,7 @@ module _ (m : Measures) (lines : List Line) (mem : Mem) where
   unfolding FourEach
   rule_four truth c four all =
       by_way (λ ls me. (b : ℕ) → length (me.words b) ≡ 4)
-      (drained_four 0 lines mem
-      (λ i v. ap length (c.agree (at_in lines i).block i (copy_from (at_in lines i).block (at_in lines i) v refl)) ∙ four (at_in lines i).block) all) all
+      (drained_four 0 lines mem (words_four (at_in lines) mem.words truth c four) all) all
 
   pub rule_memory : (truth : ℕ → List ℕ) → Coherent (at_in lines) mem.words truth → (d : Drained) → (drain_rule m lines mem).answer ≡ Ok d
       → (block : ℕ) → (drain_rule m lines mem).memory.words block ≡ truth block

@@ -11,7 +11,7 @@ use Rattle.protocol.specs.Lines.{blank_line, in_state}
 use Rattle.protocol.specs.StateTable.{snooped}
 use Rattle.cluster.specs.Copies.{holds_block}
 use Rattle.law.specs.Law.{exclusive}
-use Rattle.law.proofs.Copied.{copy_valid, copy_block, copy_from}
+use Rattle.law.proofs.Copied.{copy_valid, BlockKept, kept_copy}
 
 abbrev pub heard : Option BusCommand → Line → Line
 heard None line = line
@@ -30,13 +30,6 @@ in_valid_state line s h = rw h refl
 
 pub block_in_state : (line : Line) (s : State) → valid (in_state line s).state ≡ true → (in_state line s).block ≡ line.block
 block_in_state line s h = ap (λ x. x.block) (in_valid_state line s (valid_in_state line s h))
-
--- a line left in use was in use before, for the same block
-abbrev pub BlockKept : Line → Line → Type 0
-BlockKept line left = valid left.state ≡ true → (valid line.state ≡ true) × (left.block ≡ line.block)
-
-pub kept_copy : (line left : Line) → BlockKept line left → (b : ℕ) → holds_block b left ≡ true → holds_block b line ≡ true
-kept_copy line left kept b h = let was = kept (copy_valid b left h) in copy_from b line was.0 (sym was.1 ∙ copy_block b left h)
 
 snooped_valid : (bus : BusCommand) (s : State) → valid (snooped bus s) ≡ true → valid s ≡ true
 snooped_valid F I h = h

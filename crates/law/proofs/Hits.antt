@@ -35,6 +35,7 @@ use Rattle.law.proofs.Placing.{placed_at, hit_moved}
 use Rattle.law.proofs.Shapes.{found, action_of}
 use Rattle.law.proofs.Words.{purging, fresh}
 use Rattle.law.proofs.Doing.{taken_with, Done, ok_same}
+use Rattle.law.proofs.Doing as doing
 
 module _ (m : Measures) (some_columns : 0 < m.columns) (some_ways : 0 < m.ways) (ps : List Processor) (lines : List Line) (locks : List LockEntry) (mem : Mem)
     (q : Request) (fit : length lines ≡ line_count m) (homed : Homed m (at_in lines)) (truth : ℕ → List ℕ) (coherent : Coherent (at_in lines) mem.words truth)
@@ -48,17 +49,11 @@ module _ (m : Measures) (some_columns : 0 < m.columns) (some_ways : 0 < m.ways) 
   abbrev pub acting : Action
   acting = action_of m ps lines locks mem q
 
-  abbrev pub elsewhere : Bool
-  elsewhere = is_some (supplier_of m lines q.processor block)
-
   abbrev pub left : State
-  left = state_left d.effect d.supply.from
+  left = doing.left m ps lines locks mem q o d
 
   abbrev pub own : Line
-  own = own_line q.command q.address d.supply.words left
-
-  pub named : valid own.state ≡ true → own.block ≡ block
-  named v = own_named q.command q.address d.supply.words left v
+  own = doing.own m ps lines locks mem q o d
 
   abbrev pub after : List Line
   after = placed (own_place (line_of m lines q.processor block) (taken_with m ps lines locks mem q d.effect)) own (bus_seen m bus q.processor block lines)
@@ -66,10 +61,10 @@ module _ (m : Measures) (some_columns : 0 < m.columns) (some_ways : 0 < m.ways) 
   -- in the own cache
   module _ (k : ℕ) (e : line_of m lines q.processor block ≡ Some k) where
     abbrev pub hit_at : ℕ → Line
-    hit_at = placed_at m some_columns lines fit homed q.processor block d.known bus k own named
+    hit_at = placed_at m some_columns lines fit homed q.processor block d.known bus k own (doing.named m ps lines locks mem q o d)
 
     pub moved : Moved m (at_in lines) hit_at block k q.processor bus own
-    moved = hit_moved m some_columns lines fit homed q.processor block d.known bus k own named e
+    moved = hit_moved m some_columns lines fit homed q.processor block d.known bus k own (doing.named m ps lines locks mem q o d) e
 
     at_place : FoundAt m lines q.processor block k
     at_place = found_at m some_columns lines fit homed q.processor block k d.known e
@@ -115,23 +110,14 @@ module _ (m : Measures) (some_columns : 0 < m.columns) (some_ways : 0 < m.ways) 
     ]
 
     pub hit_lock_only : takes_lock q.command ≡ true → Only m (at_in lines) hit_at block k q.processor bus own moved
-    hit_lock_only h = sole_only (cell.locked_alone (acts_locks q.address (found m ps lines locks mem q) elsewhere q.command h))
-
-    same_words : writes acting ≡ false → words_left q.command q.address d.supply.words ≡ d.supply.words
-    same_words = acts_writes q.address (found m ps lines locks mem q) elsewhere q.command d.supply.words
-
-    purging_is : (b : Bool) → drops acting ≡ b → purging q.command q.address ≡ b
-    purging_is b h = sym (acts_drops q.address (found m ps lines locks mem q) elsewhere q.command) ∙ h
-
-    stale_by : writes acting ≡ false → fresh q.command q.address ≡ false
-    stale_by w = sym (acts_fresh q.address (found m ps lines locks mem q) elsewhere q.command) ∙ unwritten acting w
+    hit_lock_only h = sole_only (cell.locked_alone (doing.takes_locked m ps lines locks mem q o d h))
 
     pub hit_kind : Kind m (at_in lines) hit_at k q.processor bus q.command q.address d.supply.words left moved mem.words truth coherent
     hit_kind = by_hit cell.kind
       where
         by_hit : Hit acting (found m ps lines locks mem q) d.effect
             → Kind m (at_in lines) hit_at k q.processor bus q.command q.address d.supply.words left moved mem.words truth coherent
-        by_hit (keeps quiet same w dr) = kept quiet stays (same_words w) (purging_is false dr) (stale_by w)
+        by_hit (keeps quiet same w dr) = kept quiet stays (doing.same_words m ps lines locks mem q o d w) (doing.purging_is m ps lines locks mem q o d false dr) (doing.stale_by m ps lines locks mem q o d w)
           where
             left_found : left ≡ (at_in lines k).state
             left_found = hit_left ∙ same ∙ found_is
@@ -140,11 +126,11 @@ module _ (m : Measures) (some_columns : 0 < m.columns) (some_ways : 0 < m.ways) 
             same_block = sym (copy_block block (at_in lines k) at_place.copied)
 
             kept_words : words_left q.command q.address d.supply.words ≡ (at_in lines k).words
-            kept_words = same_words w ∙ ap (λ s. s.words) supply_is
+            kept_words = doing.same_words m ps lines locks mem q o d w ∙ ap (λ s. s.words) supply_is
 
             stays : own ≡ at_in lines k
             stays =
                 (λ i. in_state (record { state = left_found i; block = same_block i; words = kept_words i }) (left_found i))
                 ∙ in_valid_state (at_in lines k) (at_in lines k).state (copy_valid block (at_in lines k) at_place.copied)
-        by_hit (owns s em dr) = left_em (sole_only s) (hit_left ∙ em) (purging_is false dr)
-        by_hit (empties s i dr) = left_i (sole_only s) (hit_left ∙ i) (purging_is true dr)
+        by_hit (owns s em dr) = left_em (sole_only s) (hit_left ∙ em) (doing.purging_is m ps lines locks mem q o d false dr)
+        by_hit (empties s i dr) = left_i (sole_only s) (hit_left ∙ i) (doing.purging_is m ps lines locks mem q o d true dr)

@@ -1,6 +1,6 @@
+pub mod Invariant
 pub mod Copied
 pub mod Hearing
-pub mod Invariant
 pub mod Words
 pub mod Moving
 pub mod Cells

@@ -39,11 +39,12 @@ use Rattle.law.proofs.Moving.{Moved}
 use Rattle.law.proofs.Owning.{Only, only_cleared, only_copy}
 use Rattle.law.proofs.Places.{found_at, found_none, supplier_some, supplier_none}
 use Rattle.law.proofs.Placing.{placed_at, miss_moved}
-use Rattle.law.proofs.Replacing.{without, without_fewer, copy_fewer, given_back, replaced}
+use Rattle.law.proofs.Replacing.{without, without_here, without_fewer, copy_fewer, given_back, replaced}
 use Rattle.law.proofs.Shapes.{found, action_of}
 use Rattle.law.proofs.Taking.{way_home}
 use Rattle.law.proofs.Words.{purging, fresh}
 use Rattle.law.proofs.Doing.{taken_with, Done, ok_same}
+use Rattle.law.proofs.Doing as doing
 
 module _ (m : Measures) (some_columns : 0 < m.columns) (some_ways : 0 < m.ways) (ps : List Processor) (lines : List Line) (locks : List LockEntry) (mem : Mem)
     (q : Request) (fit : length lines ≡ line_count m) (homed : Homed m (at_in lines)) (truth : ℕ → List ℕ) (coherent : Coherent (at_in lines) mem.words truth)
@@ -57,17 +58,11 @@ module _ (m : Measures) (some_columns : 0 < m.columns) (some_ways : 0 < m.ways) 
   abbrev acting : Action
   acting = action_of m ps lines locks mem q
 
-  abbrev elsewhere : Bool
-  elsewhere = is_some (supplier_of m lines q.processor block)
-
   abbrev pub left : State
-  left = state_left d.effect d.supply.from
+  left = doing.left m ps lines locks mem q o d
 
   abbrev pub own : Line
-  own = own_line q.command q.address d.supply.words left
-
-  pub named : valid own.state ≡ true → own.block ≡ block
-  named v = own_named q.command q.address d.supply.words left v
+  own = doing.own m ps lines locks mem q o d
 
   found_is : found m ps lines locks mem q ≡ I
   found_is = ap (λ p. (line_at lines p).state) e
@@ -129,11 +124,11 @@ module _ (m : Measures) (some_columns : 0 < m.columns) (some_ways : 0 < m.ways) 
     base = without (at_in lines) k
 
     abbrev pub miss_at : ℕ → Line
-    miss_at = placed_at m some_columns lines fit homed q.processor block d.known bus k own named
+    miss_at = placed_at m some_columns lines fit homed q.processor block d.known bus k own (doing.named m ps lines locks mem q o d)
 
     pub moved : Moved m base miss_at block k q.processor bus own
     moved =
-        miss_moved m some_columns lines fit homed q.processor block d.known bus k own named
+        miss_moved m some_columns lines fit homed q.processor block d.known bus k own (doing.named m ps lines locks mem q o d)
         (way_home m some_columns some_ways lines fit q.processor block (get_or ps q.processor resting).turn d.known) e
 
     cell : MissCell acting d.effect
@@ -158,28 +153,13 @@ module _ (m : Measures) (some_columns : 0 < m.columns) (some_ways : 0 < m.ways) 
     alone_fi b = only_cleared m base miss_at block k q.processor bus own moved (ap clears b)
 
     pub miss_lock_only : takes_lock q.command ≡ true → Alone
-    miss_lock_only h = alone_fi (cell.locked_taking (acts_locks q.address (found m ps lines locks mem q) elsewhere q.command h))
+    miss_lock_only h = alone_fi (cell.locked_taking (doing.takes_locked m ps lines locks mem q o d h))
 
     back : ((i : ℕ) → copy (at_in lines) block i → ⊥) → base_words block ≡ truth block
     back none = base_coherent.clean block (λ i c. absurd (none i (base_copy i c)))
 
-    same_words : writes acting ≡ false → words_left q.command q.address d.supply.words ≡ d.supply.words
-    same_words = acts_writes q.address (found m ps lines locks mem q) elsewhere q.command d.supply.words
-
-    purging_is : (b : Bool) → drops acting ≡ b → purging q.command q.address ≡ b
-    purging_is b h = sym (acts_drops q.address (found m ps lines locks mem q) elsewhere q.command) ∙ h
-
-    fresh_is : fresh q.command q.address ≡ is_direct_write acting
-    fresh_is = sym (acts_fresh q.address (found m ps lines locks mem q) elsewhere q.command)
-
-    miss_here : k ≡ k → copy base block k → ⊥
-    miss_here same c = false≢true (sym (without_here) ∙ c)
-      where
-        without_here : holds_block block (base k) ≡ false
-        without_here = elim (eqb_tells k k) [
-          | inl here ↦ ap (λ b. holds_block block (cond b blank_line (at_in lines k))) here.0
-          | inr else ↦ absurd (else.1 refl)
-        ]
+    miss_here : copy base block k → ⊥
+    miss_here c = false≢true (sym (ap (holds_block block) (without_here (at_in lines) k)) ∙ c)
 
     abbrev MissKind : Type 0
     MissKind = Kind m base miss_at k q.processor bus q.command q.address d.supply.words left moved base_words truth base_coherent
@@ -218,28 +198,28 @@ module _ (m : Measures) (some_columns : 0 < m.columns) (some_ways : 0 < m.ways) 
       where
         by_reads : bus ≡ Some F → d.effect.from_cache ≡ S → d.effect.from_memory ≡ EC → writes acting ≡ false → drops acting ≡ false → Supplied → MissKind
         by_reads f s ec w dr (by_cache l ws) =
-            left_s f (l ∙ s) (same_words w) (purging_is false dr) (fresh_is ∙ unwritten acting w) (λ i c same. miss_here refl (subst (λ x. copy base block x) same c))
+            left_s f (l ∙ s) (doing.same_words m ps lines locks mem q o d w) (doing.purging_is m ps lines locks mem q o d false dr) (doing.stale_by m ps lines locks mem q o d w) (λ i c same. miss_here (subst (λ x. copy base block x) same c))
         by_reads f s ec w dr (by_memory l ws none) =
-            left_ec (alone_none none) (l ∙ ec) (same_words w) (purging_is false dr) (fresh_is ∙ unwritten acting w) (back none)
+            left_ec (alone_none none) (l ∙ ec) (doing.same_words m ps lines locks mem q o d w) (doing.purging_is m ps lines locks mem q o d false dr) (doing.stale_by m ps lines locks mem q o d w) (back none)
 
         by_takes : bus ≡ Some FI → d.effect.from_cache ≡ EM → (d.effect.from_memory ≡ EM) ⊎ ((d.effect.from_memory ≡ EC) × (writes acting ≡ false))
             → drops acting ≡ false → Supplied → MissKind
-        by_takes f em which dr (by_cache l ws) = left_em (alone_fi f) (l ∙ em) (purging_is false dr)
-        by_takes f em (inl m) dr (by_memory l ws none) = left_em (alone_fi f) (l ∙ m) (purging_is false dr)
+        by_takes f em which dr (by_cache l ws) = left_em (alone_fi f) (l ∙ em) (doing.purging_is m ps lines locks mem q o d false dr)
+        by_takes f em (inl same) dr (by_memory l ws none) = left_em (alone_fi f) (l ∙ same) (doing.purging_is m ps lines locks mem q o d false dr)
         by_takes f em (inr ec) dr (by_memory l ws none) =
-            left_ec (alone_fi f) (l ∙ ec.0) (same_words ec.1) (purging_is false dr) (fresh_is ∙ unwritten acting ec.1) (back none)
+            left_ec (alone_fi f) (l ∙ ec.0) (doing.same_words m ps lines locks mem q o d ec.1) (doing.purging_is m ps lines locks mem q o d false dr) (doing.stale_by m ps lines locks mem q o d ec.1) (back none)
 
         by_purges : bus ≡ Some FI → d.effect.from_cache ≡ I → d.effect.from_memory ≡ I → drops acting ≡ true → Supplied → MissKind
-        by_purges f c i dr (by_cache l ws) = left_i (alone_fi f) (l ∙ c) (purging_is true dr)
-        by_purges f c i dr (by_memory l ws none) = left_i (alone_fi f) (l ∙ i) (purging_is true dr)
+        by_purges f c i dr (by_cache l ws) = left_i (alone_fi f) (l ∙ c) (doing.purging_is m ps lines locks mem q o d true dr)
+        by_purges f c i dr (by_memory l ws none) = left_i (alone_fi f) (l ∙ i) (doing.purging_is m ps lines locks mem q o d true dr)
 
         by_miss : Miss acting d.effect → Left
         by_miss (reads_shared f s ec w dr) = let given = supplied_so (ap asks_for_block f) in record { kind = by_reads f s ec w dr given; words = λ h. words_by given }
         by_miss (takes f em which dr) = let given = supplied_so (ap asks_for_block f) in record { kind = by_takes f em which dr given; words = λ h. words_by given }
         by_miss (purges f c i dr) = let given = supplied_so (ap asks_for_block f) in record { kind = by_purges f c i dr given; words = λ h. words_by given }
         by_miss (makes n w em dr) = record {
-          kind = left_em (alone_none (made_alone w)) (unasked_memory n ∙ em) (purging_is false dr);
-          words = λ h. absurd (false≢true (sym h ∙ fresh_is ∙ w));
+          kind = left_em (alone_none (made_alone w)) (unasked_memory n ∙ em) (doing.purging_is m ps lines locks mem q o d false dr);
+          words = λ h. absurd (false≢true (sym h ∙ doing.fresh_made m ps lines locks mem q o d ∙ w));
         }
 
     pub miss_kind : MissKind

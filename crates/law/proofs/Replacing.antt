@@ -1,6 +1,6 @@
 -- A line becomes I, and a modified one goes to memory: what is kept of the lines by their places.
 use Rattle.std.proofs.Common.{◌≡◌, ℕ, ◌<◌, Bool, true, false, cond, ◌&&◌, eqb, leb, List, length, set, Some, None, Ok, Err, Option, sym, refl, ap, subst, ◌∙◌, inl, inr, arith, get_or-set_same, get_or-set_other}
-use Rattle.std.proofs.lemmas.Bool.{false≢true, eqb-true, eq-eqb, and_parts}
+use Rattle.std.proofs.lemmas.Bool.{false≢true, eqb-true, eq-eqb, ne_eqb, and_parts, cond-true, cond-false, cond_both}
 use Rattle.std.proofs.lemmas.Bool.Decides.{eqb_tells, nat_tests}
 use Rattle.protocol.specs.declared.line.Line.{Line}
 use Rattle.protocol.specs.declared.measures.Measures.{Measures}
@@ -16,7 +16,7 @@ use Rattle.cluster.specs.Copies.{holds_block}
 use Rattle.cluster.specs.Doing.{victim_of, swapped_out, memory_after}
 use Rattle.law.specs.Law.{exclusive}
 use Rattle.law.specs.Ledger.{Ledger, block_of}
-use Rattle.law.proofs.Copied.{copy_valid, copy_block, copy_from, modified_valid}
+use Rattle.law.proofs.Copied.{copy_valid, copy_block, copy_from, modified_valid, homed_kept}
 use Rattle.law.proofs.Invariant.{at_in, copy, Coherent, Home, Homed, HolderAlone}
 
 -- each line that is not I is the old one at its place
@@ -28,10 +28,7 @@ copy_fewer old new few block i h = ap (holds_block block) (sym (few i (copy_vali
 
 module _ (m : Measures) (old new : ℕ → Line) (few : Fewer old new) where
   pub homed_fewer : Homed m old → Homed m new
-  homed_fewer h = record {
-    home = λ i v. subst (λ line. Home m line.block i) (sym (few i v)) (h.home i (ap (λ line. valid line.state) (sym (few i v)) ∙ v));
-    once = λ block i j a b e. h.once block i j (copy_fewer old new few block i a) (copy_fewer old new few block j b) e;
-  }
+  homed_fewer = homed_kept m old new (λ i v. (ap (λ line. valid line.state) (sym (few i v)) ∙ v, ap (λ line. line.block) (few i v)))
 
   pub holder_fewer : (l : Ledger) → HolderAlone m old l → HolderAlone m new l
   holder_fewer l h p a i held c = h p a i held (copy_fewer old new few (block_of a) i c)
@@ -43,6 +40,19 @@ module _ (at : ℕ → Line) (v : ℕ) where
 
   abbrev pub given_back : (ℕ → List ℕ) → ℕ → List ℕ
   given_back mem k = cond (modified (at v).state && eqb k (at v).block) (at v).words (mem k)
+
+  pub without_here : without v ≡ blank_line
+  without_here = cond-true (eqb v v) blank_line (at v) (eq-eqb v v refl)
+
+  pub without_elsewhere : (i : ℕ) → (i ≡ v → ⊥) → without i ≡ at i
+  without_elsewhere i far = cond-false (eqb i v) blank_line (at i) (ne_eqb i v far)
+
+  -- memory still has four words of each block
+  pub given_four : (mem : ℕ → List ℕ) → (valid (at v).state ≡ true → length (at v).words ≡ 4) → ((b : ℕ) → length (mem b) ≡ 4)
+      → (b : ℕ) → length (given_back mem b) ≡ 4
+  given_four mem has all b =
+      cond_both (modified (at v).state && eqb b (at v).block) (at v).words (mem b) (λ (x : List ℕ). length x ≡ 4)
+      (λ h. has (modified_valid (at v).state (and_parts _ _ h).0)) (λ h. all b)
 
   pub without_fewer : Fewer at without
   without_fewer i h = by_place (eqb i v) h
@@ -70,7 +80,7 @@ module _ (at : ℕ → Line) (v : ℕ) where
     all_clean block other all i h = elim (eqb_tells i v) [
       | inl here ↦ ap (λ k. modified (at k).state) here.1 ∙ by_state (modified (at v).state) (eq-eqb block (at v).block (sym (copy_block block (at v) (subst (copy at block) here.1 h)))) other
       | inr elsewhere ↦
-          let kept : without i ≡ at i = ap (λ b. cond b blank_line (at i)) elsewhere.0 in
+          let kept = without_elsewhere i elsewhere.1 in
           ap (λ line. modified line.state) (sym kept) ∙ all i (ap (holds_block block) kept ∙ h)
     ]
       where
@@ -119,19 +129,3 @@ module _ (mem : Mem) (lines : List Line) where
           ≡ (λ k. cond (b && eqb k (at_in lines way.place).block) (at_in lines way.place).words (mem.words k))
       by_state false h = refl
       by_state true h = by_grant (grants mem (at_in lines way.place).block) refl h
-
-  -- nothing is swapped out without a way
-  pub not_swapped : memory_after mem (victim_of lines None) ≡ mem
-  not_swapped = refl
-
--- a list of lines with a blank line set in it
-pub without_set : (lines : List Line) (v : ℕ) → v < length lines → at_in (set lines v blank_line) ≡ without (at_in lines) v
-without_set lines v inside = λ i k. at_place k i
-  where
-    at_place : (k : ℕ) → at_in (set lines v blank_line) k ≡ without (at_in lines) v k
-    at_place k = elim (eqb_tells k v) [
-      | inl here ↦
-          ap (at_in (set lines v blank_line)) here.1 ∙ get_or-set_same lines v blank_line no_line inside
-          ∙ ap (λ b. cond b blank_line (at_in lines k)) (sym here.0)
-      | inr other ↦ get_or-set_other lines v k blank_line no_line other.1 ∙ ap (λ b. cond b blank_line (at_in lines k)) (sym other.0)
-    ]

@@ -16,21 +16,10 @@ use Rattle.protocol.specs.StateTable.{snooped}
 use Rattle.cluster.specs.Copies.{holds_block, line_of}
 use Rattle.cluster.specs.Snooping.{snooped_at, cache_snooped, other_snooped, snooped_from, others_snooped}
 use Rattle.law.specs.Law.{owner}
-use Rattle.law.proofs.Hearing.{heard, BlockKept, kept_copy, heard_kept}
+use Rattle.law.proofs.Copied.{BlockKept, homed_kept}
+use Rattle.law.proofs.Hearing.{heard, heard_kept}
 use Rattle.law.proofs.Invariant.{at_in, copy, Home, Homed}
 use Rattle.law.proofs.Places.{FoundAt, copy_home, found_at, found_none, window_inside_table}
-
--- lines that are kept or become I stay in their windows
-module _ (m : Measures) (at left : ℕ → Line) (kept : (i : ℕ) → BlockKept (at i) (left i)) where
-  pub copy_was : (block i : ℕ) → copy left block i → copy at block i
-  copy_was block i h = kept_copy (at i) (left i) (kept i) block h
-
-  pub homed_kept : Homed m at → Homed m left
-  homed_kept homed =
-      record {
-        home = λ i v. let was = kept i v in subst (λ b. Home m b i) (sym was.1) (homed.home i was.0);
-        once = λ block i j x y. homed.once block i j (copy_was block i x) (copy_was block j y);
-      }
 
 module _ (m : Measures) (some_columns : 0 < m.columns) (bus : BusCommand) (asking block : ℕ) where
   -- the line at a place after the bus command
