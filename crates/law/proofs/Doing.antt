@@ -73,7 +73,7 @@ ok_same {X} x y e = ap (λ r. or_x r) e
     or_x (Err r) = x
 
 -- what it makes of its own line
-module _ (m : Measures) (ps : List Processor) (lines : List Line) (locks : List LockEntry) (mem : Mem) (q : Request) (o : Outcome)
+module _ {m : Measures} {ps : List Processor} {lines : List Line} {locks : List LockEntry} {mem : Mem} {q : Request} {o : Outcome}
     (d : Done m ps lines locks mem q o) where
   abbrev acting : Action
   acting = action_of m ps lines locks mem q
@@ -81,14 +81,14 @@ module _ (m : Measures) (ps : List Processor) (lines : List Line) (locks : List 
   abbrev elsewhere : Bool
   elsewhere = is_some (supplier m ps lines locks mem q)
 
-  abbrev pub left : State
-  left = state_left d.effect d.supply.from
+  abbrev pub made_state : State
+  made_state = state_left d.effect d.supply.from
 
-  abbrev pub own : Line
-  own = own_line q.command q.address d.supply.words left
+  abbrev pub made_line : Line
+  made_line = own_line q.command q.address d.supply.words made_state
 
-  pub named : valid own.state ≡ true → own.block ≡ block_of q.address
-  named = own_named q.command q.address d.supply.words left
+  pub made_named : valid made_line.state ≡ true → made_line.block ≡ block_of q.address
+  made_named = own_named q.command q.address d.supply.words made_state
 
   pub same_words : writes acting ≡ false → words_left q.command q.address d.supply.words ≡ d.supply.words
   same_words = acts_writes q.address (found m ps lines locks mem q) elsewhere q.command d.supply.words

@@ -34,8 +34,7 @@ use Rattle.law.proofs.Places.{FoundAt, found_at}
 use Rattle.law.proofs.Placing.{placed_at, hit_moved}
 use Rattle.law.proofs.Shapes.{found, action_of}
 use Rattle.law.proofs.Words.{purging, fresh}
-use Rattle.law.proofs.Doing.{taken_with, Done, ok_same}
-use Rattle.law.proofs.Doing as doing
+use Rattle.law.proofs.Doing.{taken_with, Done, ok_same, made_state, made_line, made_named, purging_is, same_words, stale_by, takes_locked}
 
 module _ (m : Measures) (some_columns : 0 < m.columns) (some_ways : 0 < m.ways) (ps : List Processor) (lines : List Line) (locks : List LockEntry) (mem : Mem)
     (q : Request) (fit : length lines ≡ line_count m) (homed : Homed m (at_in lines)) (truth : ℕ → List ℕ) (coherent : Coherent (at_in lines) mem.words truth)
@@ -50,10 +49,10 @@ module _ (m : Measures) (some_columns : 0 < m.columns) (some_ways : 0 < m.ways) 
   acting = action_of m ps lines locks mem q
 
   abbrev pub left : State
-  left = doing.left m ps lines locks mem q o d
+  left = made_state d
 
   abbrev pub own : Line
-  own = doing.own m ps lines locks mem q o d
+  own = made_line d
 
   abbrev pub after : List Line
   after = placed (own_place (line_of m lines q.processor block) (taken_with m ps lines locks mem q d.effect)) own (bus_seen m bus q.processor block lines)
@@ -61,10 +60,10 @@ module _ (m : Measures) (some_columns : 0 < m.columns) (some_ways : 0 < m.ways) 
   -- in the own cache
   module _ (k : ℕ) (e : line_of m lines q.processor block ≡ Some k) where
     abbrev pub hit_at : ℕ → Line
-    hit_at = placed_at m some_columns lines fit homed q.processor block d.known bus k own (doing.named m ps lines locks mem q o d)
+    hit_at = placed_at m some_columns lines fit homed q.processor block d.known bus k own (made_named d)
 
     pub moved : Moved m (at_in lines) hit_at block k q.processor bus own
-    moved = hit_moved m some_columns lines fit homed q.processor block d.known bus k own (doing.named m ps lines locks mem q o d) e
+    moved = hit_moved m some_columns lines fit homed q.processor block d.known bus k own (made_named d) e
 
     at_place : FoundAt m lines q.processor block k
     at_place = found_at m some_columns lines fit homed q.processor block k d.known e
@@ -110,14 +109,14 @@ module _ (m : Measures) (some_columns : 0 < m.columns) (some_ways : 0 < m.ways) 
     ]
 
     pub hit_lock_only : takes_lock q.command ≡ true → Only m (at_in lines) hit_at block k q.processor bus own moved
-    hit_lock_only h = sole_only (cell.locked_alone (doing.takes_locked m ps lines locks mem q o d h))
+    hit_lock_only h = sole_only (cell.locked_alone (takes_locked d h))
 
     pub hit_kind : Kind m (at_in lines) hit_at k q.processor bus q.command q.address d.supply.words left moved mem.words truth coherent
     hit_kind = by_hit cell.kind
       where
         by_hit : Hit acting (found m ps lines locks mem q) d.effect
             → Kind m (at_in lines) hit_at k q.processor bus q.command q.address d.supply.words left moved mem.words truth coherent
-        by_hit (keeps quiet same w dr) = kept quiet stays (doing.same_words m ps lines locks mem q o d w) (doing.purging_is m ps lines locks mem q o d false dr) (doing.stale_by m ps lines locks mem q o d w)
+        by_hit (keeps quiet same w dr) = kept quiet stays (same_words d w) (purging_is d false dr) (stale_by d w)
           where
             left_found : left ≡ (at_in lines k).state
             left_found = hit_left ∙ same ∙ found_is
@@ -126,11 +125,11 @@ module _ (m : Measures) (some_columns : 0 < m.columns) (some_ways : 0 < m.ways) 
             same_block = sym (copy_block block (at_in lines k) at_place.copied)
 
             kept_words : words_left q.command q.address d.supply.words ≡ (at_in lines k).words
-            kept_words = doing.same_words m ps lines locks mem q o d w ∙ ap (λ s. s.words) supply_is
+            kept_words = same_words d w ∙ ap (λ s. s.words) supply_is
 
             stays : own ≡ at_in lines k
             stays =
                 (λ i. in_state (record { state = left_found i; block = same_block i; words = kept_words i }) (left_found i))
                 ∙ in_valid_state (at_in lines k) (at_in lines k).state (copy_valid block (at_in lines k) at_place.copied)
-        by_hit (owns s em dr) = left_em (sole_only s) (hit_left ∙ em) (doing.purging_is m ps lines locks mem q o d false dr)
-        by_hit (empties s i dr) = left_i (sole_only s) (hit_left ∙ i) (doing.purging_is m ps lines locks mem q o d true dr)
+        by_hit (owns s em dr) = left_em (sole_only s) (hit_left ∙ em) (purging_is d false dr)
+        by_hit (empties s i dr) = left_i (sole_only s) (hit_left ∙ i) (purging_is d true dr)

@@ -43,8 +43,7 @@ use Rattle.law.proofs.Replacing.{without, without_here, without_fewer, copy_fewe
 use Rattle.law.proofs.Shapes.{found, action_of}
 use Rattle.law.proofs.Taking.{way_home}
 use Rattle.law.proofs.Words.{purging, fresh}
-use Rattle.law.proofs.Doing.{taken_with, Done, ok_same}
-use Rattle.law.proofs.Doing as doing
+use Rattle.law.proofs.Doing.{taken_with, Done, ok_same, made_state, made_line, made_named, fresh_made, purging_is, same_words, stale_by, takes_locked}
 
 module _ (m : Measures) (some_columns : 0 < m.columns) (some_ways : 0 < m.ways) (ps : List Processor) (lines : List Line) (locks : List LockEntry) (mem : Mem)
     (q : Request) (fit : length lines ≡ line_count m) (homed : Homed m (at_in lines)) (truth : ℕ → List ℕ) (coherent : Coherent (at_in lines) mem.words truth)
@@ -59,10 +58,10 @@ module _ (m : Measures) (some_columns : 0 < m.columns) (some_ways : 0 < m.ways) 
   acting = action_of m ps lines locks mem q
 
   abbrev pub left : State
-  left = doing.left m ps lines locks mem q o d
+  left = made_state d
 
   abbrev pub own : Line
-  own = doing.own m ps lines locks mem q o d
+  own = made_line d
 
   found_is : found m ps lines locks mem q ≡ I
   found_is = ap (λ p. (line_at lines p).state) e
@@ -124,11 +123,11 @@ module _ (m : Measures) (some_columns : 0 < m.columns) (some_ways : 0 < m.ways) 
     base = without (at_in lines) k
 
     abbrev pub miss_at : ℕ → Line
-    miss_at = placed_at m some_columns lines fit homed q.processor block d.known bus k own (doing.named m ps lines locks mem q o d)
+    miss_at = placed_at m some_columns lines fit homed q.processor block d.known bus k own (made_named d)
 
     pub moved : Moved m base miss_at block k q.processor bus own
     moved =
-        miss_moved m some_columns lines fit homed q.processor block d.known bus k own (doing.named m ps lines locks mem q o d)
+        miss_moved m some_columns lines fit homed q.processor block d.known bus k own (made_named d)
         (way_home m some_columns some_ways lines fit q.processor block (get_or ps q.processor resting).turn d.known) e
 
     cell : MissCell acting d.effect
@@ -153,7 +152,7 @@ module _ (m : Measures) (some_columns : 0 < m.columns) (some_ways : 0 < m.ways) 
     alone_fi b = only_cleared m base miss_at block k q.processor bus own moved (ap clears b)
 
     pub miss_lock_only : takes_lock q.command ≡ true → Alone
-    miss_lock_only h = alone_fi (cell.locked_taking (doing.takes_locked m ps lines locks mem q o d h))
+    miss_lock_only h = alone_fi (cell.locked_taking (takes_locked d h))
 
     back : ((i : ℕ) → copy (at_in lines) block i → ⊥) → base_words block ≡ truth block
     back none = base_coherent.clean block (λ i c. absurd (none i (base_copy i c)))
@@ -198,28 +197,28 @@ module _ (m : Measures) (some_columns : 0 < m.columns) (some_ways : 0 < m.ways) 
       where
         by_reads : bus ≡ Some F → d.effect.from_cache ≡ S → d.effect.from_memory ≡ EC → writes acting ≡ false → drops acting ≡ false → Supplied → MissKind
         by_reads f s ec w dr (by_cache l ws) =
-            left_s f (l ∙ s) (doing.same_words m ps lines locks mem q o d w) (doing.purging_is m ps lines locks mem q o d false dr) (doing.stale_by m ps lines locks mem q o d w) (λ i c same. miss_here (subst (λ x. copy base block x) same c))
+            left_s f (l ∙ s) (same_words d w) (purging_is d false dr) (stale_by d w) (λ i c same. miss_here (subst (λ x. copy base block x) same c))
         by_reads f s ec w dr (by_memory l ws none) =
-            left_ec (alone_none none) (l ∙ ec) (doing.same_words m ps lines locks mem q o d w) (doing.purging_is m ps lines locks mem q o d false dr) (doing.stale_by m ps lines locks mem q o d w) (back none)
+            left_ec (alone_none none) (l ∙ ec) (same_words d w) (purging_is d false dr) (stale_by d w) (back none)
 
         by_takes : bus ≡ Some FI → d.effect.from_cache ≡ EM → (d.effect.from_memory ≡ EM) ⊎ ((d.effect.from_memory ≡ EC) × (writes acting ≡ false))
             → drops acting ≡ false → Supplied → MissKind
-        by_takes f em which dr (by_cache l ws) = left_em (alone_fi f) (l ∙ em) (doing.purging_is m ps lines locks mem q o d false dr)
-        by_takes f em (inl same) dr (by_memory l ws none) = left_em (alone_fi f) (l ∙ same) (doing.purging_is m ps lines locks mem q o d false dr)
+        by_takes f em which dr (by_cache l ws) = left_em (alone_fi f) (l ∙ em) (purging_is d false dr)
+        by_takes f em (inl same) dr (by_memory l ws none) = left_em (alone_fi f) (l ∙ same) (purging_is d false dr)
         by_takes f em (inr ec) dr (by_memory l ws none) =
-            left_ec (alone_fi f) (l ∙ ec.0) (doing.same_words m ps lines locks mem q o d ec.1) (doing.purging_is m ps lines locks mem q o d false dr) (doing.stale_by m ps lines locks mem q o d ec.1) (back none)
+            left_ec (alone_fi f) (l ∙ ec.0) (same_words d ec.1) (purging_is d false dr) (stale_by d ec.1) (back none)
 
         by_purges : bus ≡ Some FI → d.effect.from_cache ≡ I → d.effect.from_memory ≡ I → drops acting ≡ true → Supplied → MissKind
-        by_purges f c i dr (by_cache l ws) = left_i (alone_fi f) (l ∙ c) (doing.purging_is m ps lines locks mem q o d true dr)
-        by_purges f c i dr (by_memory l ws none) = left_i (alone_fi f) (l ∙ i) (doing.purging_is m ps lines locks mem q o d true dr)
+        by_purges f c i dr (by_cache l ws) = left_i (alone_fi f) (l ∙ c) (purging_is d true dr)
+        by_purges f c i dr (by_memory l ws none) = left_i (alone_fi f) (l ∙ i) (purging_is d true dr)
 
         by_miss : Miss acting d.effect → Left
         by_miss (reads_shared f s ec w dr) = let given = supplied_so (ap asks_for_block f) in record { kind = by_reads f s ec w dr given; words = λ h. words_by given }
         by_miss (takes f em which dr) = let given = supplied_so (ap asks_for_block f) in record { kind = by_takes f em which dr given; words = λ h. words_by given }
         by_miss (purges f c i dr) = let given = supplied_so (ap asks_for_block f) in record { kind = by_purges f c i dr given; words = λ h. words_by given }
         by_miss (makes n w em dr) = record {
-          kind = left_em (alone_none (made_alone w)) (unasked_memory n ∙ em) (doing.purging_is m ps lines locks mem q o d false dr);
-          words = λ h. absurd (false≢true (sym h ∙ doing.fresh_made m ps lines locks mem q o d ∙ w));
+          kind = left_em (alone_none (made_alone w)) (unasked_memory n ∙ em) (purging_is d false dr);
+          words = λ h. absurd (false≢true (sym h ∙ fresh_made d ∙ w));
         }
 
     pub miss_kind : MissKind
