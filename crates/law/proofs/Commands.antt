@@ -52,9 +52,9 @@ pub record Settled (m : Measures) (lines : List Line) (mem : ℕ → List ℕ) (
   pub four : (block : ℕ) → length (mem block) ≡ 4
 
 -- only the holder has copies, after a done command too
-module _ (m : Measures) (at after : ℕ → Line) (block k asking : ℕ) (bus : Option BusCommand) (own : Line) (moved : Moved m at after block k asking bus own) where
+module _ {m : Measures} {at after : ℕ → Line} {block k asking : ℕ} {bus : Option BusCommand} {own : Line} (moved : Moved m at after block k asking bus own) where
   holder_after : (l : Ledger) → HolderAlone m at l → ((p a : ℕ) → l.holds p a ≡ true → block_of a ≡ block → p ≡ asking)
-      → (c : Command) (a0 : ℕ) (b : Bool) → block_of a0 ≡ block → (takes_lock c ≡ true → Only m at after block k asking bus own moved)
+      → (c : Command) (a0 : ℕ) (b : Bool) → block_of a0 ≡ block → (takes_lock c ≡ true → Only moved)
       → HolderAlone m after (done_by asking a0 b c l)
   holder_after l alone mine c a0 b at_block only p a i h ci = by_lock (lock_after c asking a0 b l p a h)
     where
@@ -65,9 +65,9 @@ module _ (m : Measures) (at after : ℕ → Line) (block k asking : ℕ) (bus : 
       by_lock (older was) = elim (eqb_tells (block_of a) block) [
         | inl same ↦ elim (eqb_tells i k) [
           | inl here ↦ ap (owner m) here.1 ∙ moved.owned ∙ sym (mine p a was same.1)
-          | inr far ↦ alone p a i was (before m at after block k asking bus own moved (block_of a) i far.1 ci)
+          | inr far ↦ alone p a i was (before moved (block_of a) i far.1 ci)
         ]
-        | inr else ↦ alone p a i was (same_after m at after block k asking bus own moved (block_of a) i else.1 ci).0
+        | inr else ↦ alone p a i was (same_after moved (block_of a) i else.1 ci).0
       ]
 
 module _ (m : Measures) (some_columns : 0 < m.columns) (some_ways : 0 < m.ways) (ps : List Processor) (lines : List Line) (locks : List LockEntry) (mem : Mem)
@@ -113,13 +113,13 @@ module _ (m : Measures) (some_columns : 0 < m.columns) (some_ways : 0 < m.ways) 
         let moved = hits.moved m some_columns some_ways ps lines locks mem q was.fit was.homed truth coherent o d k e in
         record {
           fit = length-set _ k own ∙ length_seen m some_columns lines was.fit was.homed q.processor block d.known d.effect.bus ∙ was.fit;
-          homed = homed_after m (at_in lines) at block k q.processor d.effect.bus own moved was.homed;
+          homed = homed_after moved was.homed;
           truth =
-              by_kind m (at_in lines) at k q.processor d.effect.bus q.command q.address d.supply.words _ moved mem.words truth coherent l was.truth.tied ul
+              by_kind q.command q.address d.supply.words _ moved coherent l was.truth.tied ul
               (λ h. hits.hit_words m some_columns some_ways ps lines locks mem q was.fit was.homed truth coherent o d k e) (was.four block)
               (hits.hit_kind m some_columns some_ways ps lines locks mem q was.fit was.homed truth coherent o d k e);
           holder =
-              holder_after m (at_in lines) at block k q.processor d.effect.bus own moved l was.holder mine q.command q.address ul refl
+              holder_after moved l was.holder mine q.command q.address ul refl
               (hits.hit_lock_only m some_columns some_ways ps lines locks mem q was.fit was.homed truth coherent o d k e);
           four = was.four;
         }
@@ -140,13 +140,13 @@ module _ (m : Measures) (some_columns : 0 < m.columns) (some_ways : 0 < m.ways) 
         (sym (swapped mem lines (misses.way m some_columns some_ways ps lines locks mem q was.fit was.homed truth coherent o d e u) d.swapped granted))
         (record {
           fit = length-set _ k own ∙ length_seen m some_columns lines was.fit was.homed q.processor block d.known d.effect.bus ∙ was.fit;
-          homed = homed_after m base at block k q.processor d.effect.bus own moved (homed_replaced (at_in lines) k m was.homed);
+          homed = homed_after moved (homed_replaced (at_in lines) k m was.homed);
           truth =
-              by_kind m base at k q.processor d.effect.bus q.command q.address d.supply.words _ moved back truth base_coherent l was.truth.tied ul
+              by_kind q.command q.address d.supply.words _ moved base_coherent l was.truth.tied ul
               (misses.miss_words m some_columns some_ways ps lines locks mem q was.fit was.homed truth coherent o d e u) (victim_four k block)
               (misses.miss_kind m some_columns some_ways ps lines locks mem q was.fit was.homed truth coherent o d e u);
           holder =
-              holder_after m base at block k q.processor d.effect.bus own moved l (holder_replaced (at_in lines) k m l was.holder) mine q.command q.address ul refl
+              holder_after moved l (holder_replaced (at_in lines) k m l was.holder) mine q.command q.address ul refl
               (misses.miss_lock_only m some_columns some_ways ps lines locks mem q was.fit was.homed truth coherent o d e u);
           four = victim_four k;
         })

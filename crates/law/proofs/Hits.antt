@@ -100,22 +100,22 @@ module _ (m : Measures) (some_columns : 0 < m.columns) (some_ways : 0 < m.ways) 
         by_found false true h = refl
         by_found false false h = absurd (cc)
 
-    sole_only : sole (found m ps lines locks mem q) d.effect ≡ true → Only m (at_in lines) hit_at block k q.processor bus own moved
+    sole_only : sole (found m ps lines locks mem q) d.effect ≡ true → Only moved
     sole_only h = elim (or_cases _ _ h) [
       | inl x ↦
-          only_exclusive m (at_in lines) hit_at block k q.processor bus own moved mem.words truth coherent at_place.copied
+          only_exclusive moved coherent at_place.copied
           (ap exclusive (sym found_is) ∙ x)
-      | inr c ↦ only_cleared m (at_in lines) hit_at block k q.processor bus own moved c
+      | inr c ↦ only_cleared moved c
     ]
 
-    pub hit_lock_only : takes_lock q.command ≡ true → Only m (at_in lines) hit_at block k q.processor bus own moved
+    pub hit_lock_only : takes_lock q.command ≡ true → Only moved
     hit_lock_only h = sole_only (cell.locked_alone (takes_locked d h))
 
-    pub hit_kind : Kind m (at_in lines) hit_at k q.processor bus q.command q.address d.supply.words left moved mem.words truth coherent
+    pub hit_kind : Kind q.command q.address d.supply.words left moved coherent
     hit_kind = by_hit cell.kind
       where
         by_hit : Hit acting (found m ps lines locks mem q) d.effect
-            → Kind m (at_in lines) hit_at k q.processor bus q.command q.address d.supply.words left moved mem.words truth coherent
+            → Kind q.command q.address d.supply.words left moved coherent
         by_hit (keeps quiet same w dr) = kept quiet stays (same_words d w) (purging_is d false dr) (stale_by d w)
           where
             left_found : left ≡ (at_in lines k).state

@@ -143,13 +143,13 @@ module _ (m : Measures) (some_columns : 0 < m.columns) (some_ways : 0 < m.ways) 
     base_copy i c = copy_fewer (at_in lines) base (without_fewer (at_in lines) k) block i c
 
     abbrev Alone : Type 0
-    Alone = Only m base miss_at block k q.processor bus own moved
+    Alone = Only moved
 
     alone_none : ((i : ℕ) → copy (at_in lines) block i → ⊥) → Alone
-    alone_none none = only_copy m base miss_at block k q.processor bus own moved (λ i c. absurd (none i (base_copy i c)))
+    alone_none none = only_copy moved (λ i c. absurd (none i (base_copy i c)))
 
     alone_fi : bus ≡ Some FI → Alone
-    alone_fi b = only_cleared m base miss_at block k q.processor bus own moved (ap clears b)
+    alone_fi b = only_cleared moved (ap clears b)
 
     pub miss_lock_only : takes_lock q.command ≡ true → Alone
     miss_lock_only h = alone_fi (cell.locked_taking (takes_locked d h))
@@ -161,7 +161,7 @@ module _ (m : Measures) (some_columns : 0 < m.columns) (some_ways : 0 < m.ways) 
     miss_here c = false≢true (sym (ap (holds_block block) (without_here (at_in lines) k)) ∙ c)
 
     abbrev MissKind : Type 0
-    MissKind = Kind m base miss_at k q.processor bus q.command q.address d.supply.words left moved base_words truth base_coherent
+    MissKind = Kind q.command q.address d.supply.words left moved base_coherent
 
     words_by : Supplied → d.supply.words ≡ truth block
     words_by (by_cache l w) = w

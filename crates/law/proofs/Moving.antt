@@ -27,7 +27,7 @@ pub record Moved (m : Measures) (at after : ℕ → Line) (block k asking : ℕ)
   pub mine : (i : ℕ) → copy at block i → owner m i ≡ asking → i ≡ k
   pub others : (i : ℕ) → (i ≡ k → ⊥) → after i ≡ cond (holds_block block (at i)) (heard bus (at i)) (at i)
 
-module _ (m : Measures) (at after : ℕ → Line) (block k asking : ℕ) (bus : Option BusCommand) (own : Line) (moved : Moved m at after block k asking bus own) where
+module _ {m : Measures} {at after : ℕ → Line} {block k asking : ℕ} {bus : Option BusCommand} {own : Line} (moved : Moved m at after block k asking bus own) where
   -- another line after the command
   pub data Other (i : ℕ) : Type 0 where
     heard_it : holds_block block (at i) ≡ true → after i ≡ heard bus (at i) → Other i
@@ -105,13 +105,13 @@ module _ (m : Measures) (at after : ℕ → Line) (block k asking : ℕ) (bus : 
   truth_after words truth b = cond (eqb b block) words (truth b)
 
   -- what is coherent of other blocks stays so, whatever becomes of the block itself
-  pub coherent_after : (mem truth : ℕ → List ℕ) (words : List ℕ) → Coherent at mem truth
+  pub coherent_after : {mem truth : ℕ → List ℕ} (words : List ℕ) → Coherent at mem truth
       → ((i j : ℕ) → copy after block i → copy after block j → exclusive (after i).state ≡ true → j ≡ i)
       → ((i j : ℕ) → copy after block i → copy after block j → modified (after i).state ≡ true → modified (after j).state ≡ true → j ≡ i)
       → ((i : ℕ) → copy after block i → (after i).words ≡ words)
       → (((i : ℕ) → copy after block i → modified (after i).state ≡ false) → mem block ≡ words)
       → Coherent after mem (truth_after words truth)
-  coherent_after mem truth words c alone single agree clean = record {
+  coherent_after {mem = mem} words c alone single agree clean = record {
     alone = λ b i j ci cj x. elim (eqb_tells b block) [
       | inl same ↦ alone i j (subst (λ y. copy after y i) same.1 ci) (subst (λ y. copy after y j) same.1 cj) x
       | inr else ↦
