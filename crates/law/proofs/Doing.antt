@@ -48,22 +48,23 @@ module _ (m : Measures) (ps : List Processor) (lines : List Line) (locks : List 
     pub granted : swapped_out mem (victim_of lines (taken_with effect)) ≡ Ok swapped
     pub is : o ≡ finishing m ps lines locks mem (case_with effect) supply (taken_with effect) swapped (memory_after mem (victim_of lines (taken_with effect)))
 
-  pub done : (o : Outcome) → Finished m ps lines locks mem q o → Done o
-  done o f =
-      let facts = f.facts in
-      record {
-        effect = facts.effect;
-        known = leb-false m.processors q.processor facts.known;
-        cell = facts.cell;
-        alone = facts.alone;
-        supply = f.supply;
-        given = subst (λ c. supplied m lines mem c ≡ Ok f.supply) facts.is f.given;
-        swapped = f.swapped;
-        granted = subst (λ c. swapped_out mem (victim_of lines (way_taken m ps lines c)) ≡ Ok f.swapped) facts.is f.granted;
-        is =
-            f.is
-            ∙ ap (λ c. finishing m ps lines locks mem c f.supply (way_taken m ps lines c) f.swapped (memory_after mem (victim_of lines (way_taken m ps lines c)))) facts.is;
-      }
+pub done : {m : Measures} {ps : List Processor} {lines : List Line} {locks : List LockEntry} {mem : Mem} {q : Request} {o : Outcome}
+    → Finished m ps lines locks mem q o → Done m ps lines locks mem q o
+done {m = m} {ps = ps} {lines = lines} {locks = locks} {mem = mem} {q = q} f =
+    let facts = f.facts in
+    record {
+      effect = facts.effect;
+      known = leb-false m.processors q.processor facts.known;
+      cell = facts.cell;
+      alone = facts.alone;
+      supply = f.supply;
+      given = subst (λ c. supplied m lines mem c ≡ Ok f.supply) facts.is f.given;
+      swapped = f.swapped;
+      granted = subst (λ c. swapped_out mem (victim_of lines (way_taken m ps lines c)) ≡ Ok f.swapped) facts.is f.granted;
+      is =
+          f.is
+          ∙ ap (λ c. finishing m ps lines locks mem c f.supply (way_taken m ps lines c) f.swapped (memory_after mem (victim_of lines (way_taken m ps lines c)))) facts.is;
+    }
 
 pub ok_same : {X : Type 0} (x y : X) → ◌≡◌ {A = Result X Refusal} (Ok x) (Ok y) → x ≡ y
 ok_same {X} x y e = ap (λ r. or_x r) e

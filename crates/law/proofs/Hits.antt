@@ -36,9 +36,9 @@ use Rattle.law.proofs.Shapes.{found, action_of}
 use Rattle.law.proofs.Words.{purging, fresh}
 use Rattle.law.proofs.Doing.{taken_with, Done, ok_same, made_state, made_line, made_named, purging_is, same_words, stale_by, takes_locked}
 
-module _ (m : Measures) (some_columns : 0 < m.columns) (some_ways : 0 < m.ways) (ps : List Processor) (lines : List Line) (locks : List LockEntry) (mem : Mem)
-    (q : Request) (fit : length lines ≡ line_count m) (homed : Homed m (at_in lines)) (truth : ℕ → List ℕ) (coherent : Coherent (at_in lines) mem.words truth)
-    (o : Outcome) (d : Done m ps lines locks mem q o) where
+module _ {m : Measures} (some_columns : 0 < m.columns) {ps : List Processor} {lines : List Line} {locks : List LockEntry} {mem : Mem} {q : Request}
+    (fit : length lines ≡ line_count m) (homed : Homed m (at_in lines)) {truth : ℕ → List ℕ} (coherent : Coherent (at_in lines) mem.words truth)
+    {o : Outcome} (d : Done m ps lines locks mem q o) where
   abbrev pub block : ℕ
   block = q.address / 4
 

@@ -62,7 +62,7 @@ module _ (m : Measures) (some_columns : 0 < m.columns) (some_ways : 0 < m.ways) 
         subst (λ x. Settled m x.lines x.memory.words (command_fed q x.answer l)) (sym v.is)
         (kept_words (command_fed q (waiting m b.processors b.lines b.locks b.memory v.case v.blocker).answer l) (λ x. refl) (λ p a. refl))
     settled_command q o (finished f) =
-        settled_done m some_columns some_ways b.processors b.lines b.locks b.memory q l w.settled o (done m b.processors b.lines b.locks b.memory q o f)
+        settled_done some_columns some_ways w.settled (done f)
         (no_other_holder m b l w.locks.kept w.locks.one w.settled.holder w.locks.listed own_found q o f)
 
     reads_command : (q : Request) → reads q.command ≡ true → (o : Outcome) → Shape m b.processors b.lines b.locks b.memory q o
@@ -70,7 +70,7 @@ module _ (m : Measures) (some_columns : 0 < m.columns) (some_ways : 0 < m.ways) 
     reads_command q r o (refused e is) = subst (λ x. OnDone x.answer (λ done. IfSome (l.words q.address) (λ word. done.word ≡ word))) (sym is) tt
     reads_command q r o (waited v) = subst (λ x. OnDone x.answer (λ done. IfSome (l.words q.address) (λ word. done.word ≡ word))) (sym v.is) tt
     reads_command q r o (finished f) =
-        reads_done m some_columns some_ways b.processors b.lines b.locks b.memory q l w.settled o (done m b.processors b.lines b.locks b.memory q o f)
+        reads_done some_columns some_ways w.settled (done f)
         (no_other_holder m b l w.locks.kept w.locks.one w.settled.holder w.locks.listed own_found q o f) r
 
     settled_drain : Settled m (left_by m b drain).lines (left_by m b drain).memory.words l
