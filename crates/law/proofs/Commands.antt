@@ -1,6 +1,5 @@
 -- What every command leaves: coherent lines, the ledger's words, the holder's copies.
-use Rattle.std.proofs.Common.{◌≡◌, ℕ, ◌%◌, ◌<◌, Bool, true, false, cond, not, ◌&&◌, eqb, List, length, get_or, is_some, IfSome, Some, None, Ok, Option, sym, refl, ap, ◌∙◌, subst, inl, inr, length-set}
-use Rattle.std.proofs.lemmas.Bool.{false≢true, cond_both, and_parts}
+use Rattle.std.proofs.Common.{◌≡◌, ℕ, ◌%◌, ◌<◌, Bool, true, false, cond, not, ◌&&◌, List, length, get_or, is_some, IfSome, Some, None, Ok, Option, sym, refl, ap, ◌∙◌, subst, inl, inr, length-set}
 use Rattle.std.proofs.lemmas.Bool.Decides.{eqb_tells}
 use Rattle.protocol.specs.declared.command.Action.{Action}
 use Rattle.protocol.specs.declared.command.BusCommand.{BusCommand}
@@ -11,7 +10,7 @@ use Rattle.protocol.specs.declared.line.Line.{Line}
 use Rattle.protocol.specs.declared.lock.LockEntry.{LockEntry}
 use Rattle.protocol.specs.declared.measures.Measures.{Measures}
 use Rattle.protocol.specs.Acting.{word_answered}
-use Rattle.protocol.specs.Entries.{valid, modified}
+use Rattle.protocol.specs.Entries.{valid}
 use Rattle.protocol.specs.Places.{line_count}
 use Rattle.protocol.specs.StateTable.{cell_of}
 use Rattle.memory.specs.Meaning.{Mem}
@@ -24,7 +23,7 @@ use Rattle.cluster.specs.Finishing.{placed, bus_seen}
 use Rattle.cluster.specs.Making.{resting}
 use Rattle.cluster.specs.Refusing.{entry_used}
 use Rattle.cluster.specs.Rule.{Outcome}
-use Rattle.cluster.specs.Settling.{takes_lock, releases_lock, ul_sent}
+use Rattle.cluster.specs.Settling.{takes_lock, ul_sent}
 use Rattle.cluster.specs.Ways.{taken_way}
 use Rattle.law.specs.Law.{OnDone, owner, reads}
 use Rattle.law.specs.Ledger.{Ledger, block_of, command_fed, done_by}

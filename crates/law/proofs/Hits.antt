@@ -1,5 +1,5 @@
 -- A done command whose own cache has the block.
-use Rattle.std.proofs.Common.{◌≡◌, ℕ, ◌/◌, ◌<◌, Bool, true, false, cond, not, ◌&&◌, List, length, get_or, is_some, Some, None, Ok, Option, sym, refl, ap, ◌∙◌, inl, inr}
+use Rattle.std.proofs.Common.{◌≡◌, ℕ, ◌/◌, ◌<◌, Bool, true, false, cond, not, ◌&&◌, List, length, get_or, Some, None, Ok, Option, sym, refl, ap, ◌∙◌, inl, inr}
 use Rattle.std.proofs.lemmas.Bool.{or_cases}
 use Rattle.protocol.specs.declared.command.Action.{Action}
 use Rattle.protocol.specs.declared.command.BusCommand.{BusCommand}
@@ -26,14 +26,13 @@ use Rattle.law.specs.Law.{exclusive}
 use Rattle.law.proofs.Copied.{copy_valid, copy_block}
 use Rattle.law.proofs.Hearing.{in_valid_state}
 use Rattle.law.proofs.Invariant.{at_in, Coherent, Homed}
-use Rattle.law.proofs.Cells.{hit, HitCell, Hit, keeps, owns, empties, acts_drops, acts_writes, acts_fresh, acts_locks, sole, writes, drops, unwritten}
-use Rattle.law.proofs.Leaving.{own_line, own_named, Kind, left_em, left_i, kept}
+use Rattle.law.proofs.Cells.{hit, HitCell, Hit, keeps, owns, empties, sole}
+use Rattle.law.proofs.Leaving.{Kind, left_em, left_i, kept}
 use Rattle.law.proofs.Moving.{Moved}
 use Rattle.law.proofs.Owning.{Only, only_cleared, only_exclusive}
 use Rattle.law.proofs.Places.{FoundAt, found_at}
 use Rattle.law.proofs.Placing.{placed_at, hit_moved}
 use Rattle.law.proofs.Shapes.{found, action_of}
-use Rattle.law.proofs.Words.{purging, fresh}
 use Rattle.law.proofs.Doing.{taken_with, Done, ok_same, made_state, made_line, made_named, purging_is, same_words, stale_by, takes_locked}
 
 module _ {m : Measures} (some_columns : 0 < m.columns) {ps : List Processor} {lines : List Line} {locks : List LockEntry} {mem : Mem} {q : Request}

@@ -1,14 +1,10 @@
 -- Locks in a block: the lock table tells what the ledger tells, and a done command meets no other processor's lock.
-use Rattle.std.proofs.Common.{◌≡◌, ℕ, zero, suc, ◌+◌, ◌-◌, ◌*◌, ◌<◌, ◌≤◌, Bool, true, false, cond, not, ◌&&◌, ◌||◌, eqb, ltb, leb, ◌⊎◌, List, length, get_or, drop, is_some, Some, None, Option, sym, refl, ap, subst, ◌∙◌, inl, inr, arith, length-drop, length-take}
-use Rattle.std.proofs.lemmas.List.{get_or-take, get_or-drop}
+use Rattle.std.proofs.Common.{◌≡◌, ℕ, ◌+◌, ◌*◌, ◌<◌, ◌≤◌, Bool, true, false, not, ◌&&◌, ◌||◌, eqb, leb, ◌⊎◌, get_or, is_some, sym, refl, ap, subst, ◌∙◌, inl, inr, arith}
 use Rattle.std.proofs.lemmas.Bool.{false≢true}
 use Rattle.std.proofs.lemmas.Bool.Decides.{eqb_tells, leb_tells, nat_tests}
-use Rattle.std.proofs.lemmas.List.Sums.{get_or-le-sum_by}
 use Rattle.std.specs.Cmp.{both_ways}
 use Rattle.protocol.specs.declared.lock.LockEntry.{LockEntry}
 use Rattle.protocol.specs.declared.measures.Measures.{Measures}
-use Rattle.protocol.specs.Finding.{window_of, lowest_from}
-use Rattle.protocol.specs.Places.{locks_start}
 use Rattle.cluster.specs.Locks.{in_use, locks_from, locks_block, entry_of, held_entry, has_lock, other_lock, holder_of}
 use Rattle.cluster.specs.Making.{blank_entry}
 use Rattle.law.specs.Calls.{Board}

@@ -1,12 +1,9 @@
 -- No two processors hold locks in one block, and WAIT is answered exactly where another holds one.
-use Rattle.std.proofs.Common.{◌≡◌, ℕ, ◌/◌, ◌<◌, Bool, true, false, cond, not, ◌&&◌, ◌||◌, eqb, leb, ◌⊎◌, List, is_some, Some, None, Option, sym, refl, ap, ◌∙◌, subst, inl, inr, arith}
+use Rattle.std.proofs.Common.{◌≡◌, ℕ, ◌/◌, ◌<◌, Bool, true, false, cond, not, ◌&&◌, ◌||◌, ◌⊎◌, List, is_some, Some, None, Option, sym, refl, ap, ◌∙◌, subst, inl, inr}
 use Prim.{tt}
-use Rattle.std.proofs.lemmas.Bool.{false≢true, cond_both, false_from_ne_true, leb-false}
-use Rattle.std.proofs.lemmas.Bool.Decides.{eqb_tells, nat_tests}
+use Rattle.std.proofs.lemmas.Bool.{leb-false}
 use Rattle.protocol.specs.declared.command.Action.{Action}
 use Rattle.protocol.specs.declared.command.Action.TheVariants as action
-use Rattle.protocol.specs.declared.command.Command.{Command}
-use Rattle.protocol.specs.declared.command.Command.TheVariants.{R, W, DW, RI, RP, RB, LR, UW, U}
 use Rattle.protocol.specs.declared.command.Request.{Request}
 use Rattle.protocol.specs.declared.line.Line.{Line}
 use Rattle.protocol.specs.declared.lock.LockEntry.{LockEntry}
@@ -14,7 +11,7 @@ use Rattle.protocol.specs.declared.measures.Measures.{Measures}
 use Rattle.protocol.specs.declared.state.State.{State}
 use Rattle.protocol.specs.declared.state.State.TheVariants.{I, S, SM, EC, EM}
 use Rattle.protocol.specs.declared.table.Effect.{Effect}
-use Rattle.protocol.specs.Acting.{at_start, at_last, acts_as}
+use Rattle.protocol.specs.Acting.{acts_as}
 use Rattle.protocol.specs.Entries.{valid}
 use Rattle.protocol.specs.StateTable.{cell_of}
 use Rattle.memory.specs.Meaning.{Mem}
@@ -24,7 +21,7 @@ use Rattle.cluster.specs.Doing.{asks_for_block, lock_hit, is_unlock}
 use Rattle.cluster.specs.Locks.{held_entry, holder_of}
 use Rattle.cluster.specs.Refusing.{is_direct_write}
 use Rattle.cluster.specs.Rule.{Outcome}
-use Rattle.cluster.specs.Settling.{takes_lock, releases_lock, ul_sent}
+use Rattle.cluster.specs.Settling.{releases_lock, ul_sent}
 use Rattle.law.specs.Calls.{Board}
 use Rattle.law.specs.Law.{WaitsIf, owner, locks_in, locked_by_other}
 use Rattle.law.specs.Ledger.{Ledger, block_of, command_fed, done_by}

@@ -1,6 +1,6 @@
 -- Who waits for a block has an entry that somebody waits for, and so a block without locks has nobody that waits for it.
 use Prim.{tt}
-use Rattle.std.proofs.Common.{◌≡◌, ℕ, zero, suc, ◌+◌, ◌*◌, ◌<◌, ◌≤◌, Bool, true, false, cond, not, ◌&&◌, eqb, ◌⊎◌, List, [], ◌∷◌, length, get_or, is_some, Some, None, Ok, Err, Option, Result, sym, refl, ap, ◌∙◌, subst, inl, inr, suc-mul, arith, length-set}
+use Rattle.std.proofs.Common.{◌≡◌, ℕ, zero, suc, ◌+◌, ◌*◌, ◌<◌, ◌≤◌, Bool, true, false, cond, not, ◌&&◌, eqb, ◌⊎◌, List, length, get_or, is_some, Some, None, Ok, Err, Option, Result, sym, refl, ap, ◌∙◌, subst, inl, inr, suc-mul, arith, length-set}
 use Rattle.std.proofs.lemmas.List.{get_or-set_other}
 use Rattle.std.proofs.lemmas.Bool.{false≢true, cond_both, false_from_ne_true}
 use Rattle.std.proofs.lemmas.Bool.Decides.{eqb_tells, leb_tells, nat_tests}
@@ -16,13 +16,11 @@ use Rattle.protocol.specs.Entries.{locked as entry_locked}
 use Rattle.protocol.specs.Finding.{unused}
 use Rattle.protocol.specs.Places.{locks_start}
 use Rattle.memory.specs.Meaning.{Mem}
-use Rattle.cluster.specs.Doing.{asks_for_block, lock_hit}
-use Rattle.cluster.specs.Locks.{in_use, locks_from, locks_block, entry_of, held_entry, free_entry, has_lock, other_lock, holder_of, own_entry, waited_at, waited_for, waits_on, somebody_waits}
+use Rattle.cluster.specs.Locks.{in_use, locks_from, locks_block, entry_of, held_entry, free_entry, has_lock, holder_of, own_entry, waited_at, waited_for, waits_on, somebody_waits}
 use Rattle.cluster.specs.Making.{blank_entry}
 use Rattle.cluster.specs.Refusing.{entry_used}
 use Rattle.cluster.specs.Rule.{Outcome}
 use Rattle.cluster.specs.Settling.{takes_lock, releases_lock, locks_settled, ul_sent}
-use Rattle.cluster.specs.Tables.{map_from}
 use Rattle.law.specs.Calls.{Board, command, command_on, left_by}
 use Rattle.law.specs.Law.{OnDone, locks_in, locked}
 use Rattle.law.specs.Ledger.{Ledger, block_of, opened, waits_in, command_fed, done_by}

@@ -1,7 +1,6 @@
 -- A done command whose own cache does not have the block.
 use Rattle.std.proofs.Common.{◌≡◌, ℕ, ◌/◌, ◌<◌, Bool, true, false, cond, not, ◌&&◌, ◌⊎◌, List, length, get_or, is_some, Some, None, Ok, Err, Option, Result, sym, refl, ap, ◌∙◌, subst, inl, inr}
 use Rattle.std.proofs.lemmas.Bool.{false≢true, or_parts}
-use Rattle.std.proofs.lemmas.Bool.Decides.{eqb_tells}
 use Rattle.protocol.specs.declared.answer.Supplier.TheVariants.{Memory, Cache}
 use Rattle.protocol.specs.declared.command.Action.{Action}
 use Rattle.protocol.specs.declared.command.BusCommand.{BusCommand}
@@ -15,9 +14,7 @@ use Rattle.protocol.specs.declared.refusal.Direction.TheVariants.{Read}
 use Rattle.protocol.specs.declared.refusal.Refusal.TheVariants.{Memory as RefusedByMemory}
 use Rattle.protocol.specs.declared.state.State.{State}
 use Rattle.protocol.specs.declared.state.State.TheVariants.{I, S, EC, EM}
-use Rattle.protocol.specs.Acting.{words_left}
 use Rattle.protocol.specs.Entries.{valid}
-use Rattle.protocol.specs.Lines.{blank_line}
 use Rattle.protocol.specs.Places.{line_count}
 use Rattle.protocol.specs.StateTable.{cell_of}
 use Rattle.memory.specs.Meaning.{Mem, grants}
@@ -33,8 +30,8 @@ use Rattle.cluster.specs.Settling.{takes_lock}
 use Rattle.cluster.specs.Ways.{taken_way}
 use Rattle.law.proofs.Hearing.{clears}
 use Rattle.law.proofs.Invariant.{at_in, copy, Coherent, Homed}
-use Rattle.law.proofs.Cells.{miss, MissCell, Miss, reads_shared, takes, purges, makes, acts_drops, acts_writes, acts_fresh, acts_locks, writes, drops, unwritten}
-use Rattle.law.proofs.Leaving.{own_line, own_named, Kind, left_em, left_ec, left_i, left_s}
+use Rattle.law.proofs.Cells.{miss, MissCell, Miss, reads_shared, takes, purges, makes, writes, drops}
+use Rattle.law.proofs.Leaving.{Kind, left_em, left_ec, left_i, left_s}
 use Rattle.law.proofs.Moving.{Moved}
 use Rattle.law.proofs.Owning.{Only, only_cleared, only_copy}
 use Rattle.law.proofs.Places.{found_at, found_none, supplier_some, supplier_none}
@@ -42,7 +39,7 @@ use Rattle.law.proofs.Placing.{placed_at, miss_moved}
 use Rattle.law.proofs.Replacing.{without, without_here, without_fewer, copy_fewer, given_back, replaced}
 use Rattle.law.proofs.Shapes.{found, action_of}
 use Rattle.law.proofs.Taking.{way_home}
-use Rattle.law.proofs.Words.{purging, fresh}
+use Rattle.law.proofs.Words.{fresh}
 use Rattle.law.proofs.Doing.{taken_with, Done, ok_same, made_state, made_line, made_named, fresh_made, purging_is, same_words, stale_by, takes_locked}
 
 module _ {m : Measures} (some_columns : 0 < m.columns) (some_ways : 0 < m.ways) {ps : List Processor} {lines : List Line} {locks : List LockEntry} {mem : Mem} {q : Request}

@@ -1,15 +1,8 @@
 -- Places of a table of lines: whose they are, where a search lands, what it tells if it finds nothing.
-use Rattle.std.proofs.Common.{◌≡◌, ℕ, suc, ◌+◌, ◌-◌, ◌*◌, ◌%◌, ◌<◌, ◌≤◌, Bool, true, false, cond, not, ◌&&◌, ◌⊎◌, eqb, ltb, leb, List, length, get_or, drop, is_some, Some, None, Option, sym, refl, ap, subst, ◌∙◌, inl, inr, mul-le-mul_right, suc-mul, arith}
+use Rattle.std.proofs.Common.{◌≡◌, ℕ, suc, ◌+◌, ◌*◌, ◌%◌, ◌<◌, ◌≤◌, true, List, length, is_some, Some, None, Option, sym, refl, ap, subst, mul-le-mul_right, suc-mul, arith}
 use Rattle.std.proofs.Math.Nat.{mul_assoc, div-eq_of_lt-le, mod-lt}
-use Rattle.std.specs.List.{position_or_len}
-use Rattle.std.proofs.lemmas.Bool.{false≢true, eq-eqb}
-use Rattle.std.proofs.lemmas.Bool.Decides.{eqb_tells, nat_tests}
-use Rattle.std.proofs.lemmas.List.{get_or-take, get_or-drop}
-use Rattle.std.proofs.lemmas.List.Sums.{fails_before_first}
 use Rattle.protocol.specs.declared.line.Line.{Line}
 use Rattle.protocol.specs.declared.measures.Measures.{Measures}
-use Rattle.protocol.specs.Entries.{valid}
-use Rattle.protocol.specs.Finding.{first_in, window_of}
 use Rattle.protocol.specs.Lines.{no_line}
 use Rattle.protocol.specs.Places.{line_count, window_start}
 use Rattle.cluster.specs.Copies.{holds_block, line_of, has_copy, supplier_of}

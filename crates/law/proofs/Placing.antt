@@ -7,7 +7,7 @@ use Rattle.protocol.specs.declared.command.BusCommand.{BusCommand}
 use Rattle.protocol.specs.declared.line.Line.{Line}
 use Rattle.protocol.specs.declared.measures.Measures.{Measures}
 use Rattle.protocol.specs.Entries.{valid}
-use Rattle.protocol.specs.Lines.{no_line, blank_line}
+use Rattle.protocol.specs.Lines.{no_line}
 use Rattle.protocol.specs.Places.{line_count}
 use Rattle.cluster.specs.Copies.{holds_block, line_of}
 use Rattle.cluster.specs.Finishing.{bus_seen}

@@ -1,15 +1,13 @@
 -- A line becomes I, and a modified one goes to memory: what is kept of the lines by their places.
-use Rattle.std.proofs.Common.{◌≡◌, ℕ, ◌<◌, Bool, true, false, cond, ◌&&◌, eqb, leb, List, length, set, Some, None, Ok, Err, Option, sym, refl, ap, subst, ◌∙◌, inl, inr, arith, get_or-set_same, get_or-set_other}
+use Rattle.std.proofs.Common.{◌≡◌, ℕ, Bool, true, false, cond, ◌&&◌, eqb, List, length, Some, None, Ok, Err, Option, sym, refl, ap, subst, ◌∙◌, inl, inr}
 use Rattle.std.proofs.lemmas.Bool.{false≢true, eqb-true, eq-eqb, ne_eqb, and_parts, cond-true, cond-false, cond_both}
-use Rattle.std.proofs.lemmas.Bool.Decides.{eqb_tells, nat_tests}
+use Rattle.std.proofs.lemmas.Bool.Decides.{eqb_tells}
 use Rattle.protocol.specs.declared.line.Line.{Line}
 use Rattle.protocol.specs.declared.measures.Measures.{Measures}
 use Rattle.protocol.specs.declared.refusal.Direction.TheVariants.{Write}
 use Rattle.protocol.specs.declared.refusal.Refusal.TheVariants.{Memory}
-use Rattle.protocol.specs.declared.state.State.{State}
-use Rattle.protocol.specs.declared.state.State.TheVariants.{I, S, SM, EC, EM}
 use Rattle.protocol.specs.Entries.{valid, modified}
-use Rattle.protocol.specs.Lines.{blank_line, no_line}
+use Rattle.protocol.specs.Lines.{blank_line}
 use Rattle.memory.specs.Meaning.{Mem, grants, written}
 use Rattle.cluster.specs.declared.ways.Taken.{Taken}
 use Rattle.cluster.specs.Copies.{holds_block}
@@ -17,7 +15,7 @@ use Rattle.cluster.specs.Doing.{victim_of, swapped_out, memory_after}
 use Rattle.law.specs.Law.{exclusive}
 use Rattle.law.specs.Ledger.{Ledger, block_of}
 use Rattle.law.proofs.Copied.{copy_valid, copy_block, copy_from, modified_valid, homed_kept}
-use Rattle.law.proofs.Invariant.{at_in, copy, Coherent, Home, Homed, HolderAlone}
+use Rattle.law.proofs.Invariant.{at_in, copy, Coherent, Homed, HolderAlone}
 
 -- each line that is not I is the old one at its place
 abbrev pub Fewer : (ℕ → Line) → (ℕ → Line) → Type 0

@@ -1,24 +1,19 @@
 -- What a bus command does to the line at each place.
 use Rattle.std.proofs.Common.{◌≡◌, ℕ, zero, suc, ◌+◌, ◌<◌, ◌≤◌, Bool, true, false, cond, not, ◌&&◌, ◌⊎◌, eqb, leb, List, length, set, Some, None, Option, sym, refl, ap, subst, ◌∙◌, inl, inr, arith, length-set}
 use Rattle.std.proofs.lemmas.Bool.{eq-eqb, eqb-true, and_parts, cond-false, false_from_ne_true}
-use Rattle.std.proofs.lemmas.Bool.Decides.{eqb_tells, leb_tells, nat_tests}
+use Rattle.std.proofs.lemmas.Bool.Decides.{eqb_tells, leb_tells}
 use Rattle.std.proofs.lemmas.List.{get_or-set_same, get_or-set_other}
 use Rattle.protocol.specs.declared.command.BusCommand.{BusCommand}
-use Rattle.protocol.specs.declared.command.BusCommand.TheVariants.{F, FI, I as bus_i}
 use Rattle.protocol.specs.declared.line.Line.{Line}
 use Rattle.protocol.specs.declared.measures.Measures.{Measures}
-use Rattle.protocol.specs.declared.state.State.{State}
-use Rattle.protocol.specs.declared.state.State.TheVariants.{I, S, SM, EC, EM}
-use Rattle.protocol.specs.Entries.{valid}
-use Rattle.protocol.specs.Lines.{blank_line, no_line, in_state}
+use Rattle.protocol.specs.Lines.{no_line}
 use Rattle.protocol.specs.Places.{line_count, window_start}
-use Rattle.protocol.specs.StateTable.{snooped}
 use Rattle.cluster.specs.Copies.{holds_block, line_of}
 use Rattle.cluster.specs.Snooping.{snooped_at, cache_snooped, other_snooped, snooped_from, others_snooped}
 use Rattle.law.specs.Law.{owner}
 use Rattle.law.proofs.Copied.{BlockKept, homed_kept}
 use Rattle.law.proofs.Hearing.{heard, heard_kept}
-use Rattle.law.proofs.Invariant.{at_in, copy, Home, Homed}
+use Rattle.law.proofs.Invariant.{at_in, Homed}
 use Rattle.law.proofs.Places.{FoundAt, copy_home, found_at, found_none, window_inside_table}
 
 module _ (m : Measures) (some_columns : 0 < m.columns) (bus : BusCommand) (asking block : ℕ) where

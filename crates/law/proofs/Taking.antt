@@ -1,11 +1,11 @@
 -- The way that a command takes lies in its processor's window.
-use Rattle.std.proofs.Common.{◌≡◌, ℕ, ◌+◌, ◌%◌, ◌<◌, ◌≤◌, Bool, true, false, not, List, length, get_or, Some, None, Option, sym, refl, ap, ◌∙◌, arith}
+use Rattle.std.proofs.Common.{◌≡◌, ℕ, ◌+◌, ◌%◌, ◌<◌, ◌≤◌, Bool, false, List, length, Some, None, Option, refl, arith}
 use Rattle.std.proofs.Math.Nat.{mod-lt}
 use Rattle.std.proofs.lemmas.Bool.{not-true}
 use Rattle.protocol.specs.declared.line.Line.{Line}
 use Rattle.protocol.specs.declared.measures.Measures.{Measures}
 use Rattle.protocol.specs.Entries.{valid}
-use Rattle.protocol.specs.Finding.{unused, window_of}
+use Rattle.protocol.specs.Finding.{unused}
 use Rattle.protocol.specs.Lines.{no_line}
 use Rattle.protocol.specs.Places.{line_count, window_start}
 use Rattle.cluster.specs.Ways.{free_way, chosen_way, taken_way}
