@@ -112,7 +112,8 @@ module _ (m : Measures) (ps : List Processor) (lines : List Line) (locks : List 
   abbrev listed : List Processor → ℕ → Option ℕ
   listed xs r = cond (ltb r m.processors) (wait_at xs r) None
 
-  wakes_listed : (b : Bool) (block r : ℕ) → cond (ltb r m.processors) (cond b (wake block (wait_at ps r)) (wait_at ps r)) None ≡ cond b (wake block (listed ps r)) (listed ps r)
+  wakes_listed : (b : Bool) (block r : ℕ)
+      → cond (ltb r m.processors) (cond b (wake block (wait_at ps r)) (wait_at ps r)) None ≡ cond b (wake block (listed ps r)) (listed ps r)
   wakes_listed b block r = by_bools b (ltb r m.processors) (wait_at ps r)
     where
       by_bools : (b k : Bool) (w : Option ℕ) → cond k (cond b (wake block w) w) None ≡ cond b (wake block (cond k w None)) (cond k w None)

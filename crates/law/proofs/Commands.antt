@@ -160,7 +160,11 @@ module _ {m : Measures} (some_columns : 0 < m.columns) (some_ways : 0 < m.ways) 
       (record {
         fit = was.fit;
         homed = was.homed;
-        truth = record { words = truth; coherent = coherent; tied = tied_same truth l (done_by q.processor q.address ul U l) was.truth.tied (done_words U q.processor q.address ul l) };
+        truth = record {
+          words = truth;
+          coherent = coherent;
+          tied = tied_same truth l (done_by q.processor q.address ul U l) was.truth.tied (done_words U q.processor q.address ul l);
+        };
         holder = λ p a i h ci. by_lock p a i ci (lock_after U q.processor q.address ul l p a h);
         four = was.four;
       }))
@@ -170,7 +174,9 @@ module _ {m : Measures} (some_columns : 0 < m.columns) (some_ways : 0 < m.ways) 
       by_lock p a i ci (newer t p_is a_is) = absurd (cc)
 
   untaken : is_unlock acting ≡ true → taken_with m ps lines locks mem q d.effect ≡ None
-  untaken u = ap (λ b. cond (not b && not (valid (found m ps lines locks mem q))) (Some (taken_way m lines q.processor block (get_or ps q.processor resting).turn)) None) u
+  untaken u =
+      let way = taken_way m lines q.processor block (get_or ps q.processor resting).turn in
+      ap (λ b. cond (not b && not (valid (found m ps lines locks mem q))) (Some way) None) u
 
   after_done : SettledAfter (line_of m lines q.processor block) (taken_with m ps lines locks mem q d.effect)
   after_done = by_place (line_of m lines q.processor block) refl

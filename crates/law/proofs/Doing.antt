@@ -1,5 +1,5 @@
 -- A done command, told by the cell that it met, and its own line.
-use Rattle.std.proofs.Common.{◌≡◌, ℕ, ◌<◌, Bool, true, false, not, ◌&&◌, ◌||◌, List, is_some, Some, Ok, Err, Option, Result, sym, ap, ◌∙◌, subst}
+use Rattle.std.proofs.Common.{◌≡◌, ℕ, ◌/◌, ◌<◌, Bool, true, false, cond, not, ◌&&◌, ◌||◌, List, is_some, Some, None, Ok, Err, Option, Result, sym, ap, ◌∙◌, subst}
 use Rattle.std.proofs.lemmas.Bool.{leb-false}
 use Rattle.protocol.specs.declared.command.Action.{Action}
 use Rattle.protocol.specs.declared.command.Request.{Request}
@@ -17,7 +17,8 @@ use Rattle.cluster.specs.declared.case.Case.{Case}
 use Rattle.cluster.specs.declared.cluster.Processor.{Processor}
 use Rattle.cluster.specs.declared.supply.Supply.{Supply}
 use Rattle.cluster.specs.declared.ways.Taken.{Taken}
-use Rattle.cluster.specs.Doing.{state_left, supplied, victim_of, swapped_out, memory_after}
+use Rattle.cluster.specs.Copies.{line_of, line_at}
+use Rattle.cluster.specs.Doing.{asks_for_block, state_left, supplied_by, supplied, victim_of, swapped_out, memory_after}
 use Rattle.cluster.specs.Finishing.{way_taken}
 use Rattle.cluster.specs.Refusing.{is_direct_write}
 use Rattle.cluster.specs.Rule.{Outcome, finishing}
@@ -90,6 +91,18 @@ module _ {m : Measures} {ps : List Processor} {lines : List Line} {locks : List 
 
   pub made_named : valid made_line.state ≡ true → made_line.block ≡ block_of q.address
   made_named = own_named q.command q.address d.supply.words made_state
+
+  abbrev own_supply : Supply
+  own_supply = record { words = (line_at lines (line_of m lines q.processor (q.address / 4))).words; from = None }
+
+  abbrev asked : Result Supply Refusal
+  asked = supplied_by m lines mem (q.address / 4) (supplier m ps lines locks mem q)
+
+  pub unasked_supply : asks_for_block d.effect.bus ≡ false → d.supply ≡ own_supply
+  unasked_supply e = ok_same d.supply own_supply (sym d.given ∙ ap (λ b. cond b asked (Ok own_supply)) e)
+
+  pub asked_supply : asks_for_block d.effect.bus ≡ true → asked ≡ Ok d.supply
+  asked_supply e = sym (ap (λ b. cond b asked (Ok own_supply)) e) ∙ d.given
 
   pub same_words : writes acting ≡ false → words_left q.command q.address d.supply.words ≡ d.supply.words
   same_words = acts_writes q.address (found m ps lines locks mem q) elsewhere q.command d.supply.words

@@ -56,7 +56,7 @@ step blocks line lines mem = by_both (modified line.state) (grants mem line.bloc
         stopped (Memory line.block Write)
         (on_answer (Err (Memory line.block Write)) (λ i. cond (e i) (cond (f i) (Ok 1) (Err (Memory line.block Write))) (Ok 0)))
 
-pub drained_length : (blocks : ℕ) (lines : List Line) (mem : Mem) → length (drain_from blocks lines mem).lines ≡ length lines
+drained_length : (blocks : ℕ) (lines : List Line) (mem : Mem) → length (drain_from blocks lines mem).lines ≡ length lines
 drained_length blocks [] mem = refl
 drained_length blocks (line ∷ lines) mem = by_step (step blocks line lines mem) (λ n. drained_length (blocks + n) lines (memory_back mem line))
   where
@@ -66,7 +66,7 @@ drained_length blocks (line ∷ lines) mem = by_step (step blocks line lines mem
     by_step (went n words is) rest = ap (λ d. length d.lines) is ∙ ap suc (rest n)
 
 -- a drain leaves blank lines and lines as they were
-pub drained_fewer : (blocks : ℕ) (lines : List Line) (mem : Mem) → Fewer (at_in lines) (at_in (drain_from blocks lines mem).lines)
+drained_fewer : (blocks : ℕ) (lines : List Line) (mem : Mem) → Fewer (at_in lines) (at_in (drain_from blocks lines mem).lines)
 drained_fewer blocks [] mem = λ i h. refl
 drained_fewer blocks (line ∷ lines) mem = by_step (step blocks line lines mem) (λ n. drained_fewer (blocks + n) lines (memory_back mem line))
   where
@@ -183,12 +183,12 @@ module _ (truth : ℕ → List ℕ) where
     abbrev drain : Drain
     drain = drain_from blocks lines mem
 
-    pub drained_coherent : Coherent (at_in lines) mem.words truth → Coherent (at_in drain.lines) drain.memory.words truth
+    drained_coherent : Coherent (at_in lines) mem.words truth → Coherent (at_in drain.lines) drain.memory.words truth
     drained_coherent c =
         subst (λ at. Coherent at drain.memory.words truth) (from_start drain.lines)
         (coherent_from blocks lines mem 0 (subst (λ at. Coherent at mem.words truth) (sym (from_start lines)) c))
 
-    pub drained_memory : Coherent (at_in lines) mem.words truth → (n : ℕ) → drain.answer ≡ Ok n → (block : ℕ) → drain.memory.words block ≡ truth block
+    drained_memory : Coherent (at_in lines) mem.words truth → (n : ℕ) → drain.answer ≡ Ok n → (block : ℕ) → drain.memory.words block ≡ truth block
     drained_memory c n h block = (drained_coherent c).clean block
         (λ i held. absurd (false≢true (sym (drained_blank blocks lines mem n h i) ∙ copy_valid block (at_in drain.lines i) held)))
 
@@ -204,7 +204,8 @@ drained_four blocks (line ∷ lines) mem each all =
     by_step (step blocks line lines mem) (λ n. drained_four (blocks + n) lines (memory_back mem line) (λ i. each (suc i)))
   where
     by_step : Step blocks line lines mem
-        → ((n : ℕ) → ((b : ℕ) → length ((memory_back mem line).words b) ≡ 4) → (b : ℕ) → length ((drain_from (blocks + n) lines (memory_back mem line)).memory.words b) ≡ 4)
+        → ((n : ℕ) → ((b : ℕ) → length ((memory_back mem line).words b) ≡ 4)
+        → (b : ℕ) → length ((drain_from (blocks + n) lines (memory_back mem line)).memory.words b) ≡ 4)
         → (b : ℕ) → length ((drain_from blocks (line ∷ lines) mem).memory.words b) ≡ 4
     by_step (stopped e is) rest = subst (λ d. (b : ℕ) → length (d.memory.words b) ≡ 4) (sym is) all
     by_step (went n words is) rest =
@@ -212,10 +213,10 @@ drained_four blocks (line ∷ lines) mem each all =
         (rest n (subst (λ w. (b : ℕ) → length (w b) ≡ 4) (sym words) (given_four (λ k. line) 0 mem.words (each zero) all)))
 
 module _ (m : Measures) (blocks : ℕ) (lines : List Line) (mem : Mem) where
-  pub drained_homed : Homed m (at_in lines) → Homed m (at_in (drain_from blocks lines mem).lines)
+  drained_homed : Homed m (at_in lines) → Homed m (at_in (drain_from blocks lines mem).lines)
   drained_homed h = homed_fewer m (at_in lines) (at_in (drain_from blocks lines mem).lines) (drained_fewer blocks lines mem) h
 
-  pub drained_holder : (l : Ledger) → HolderAlone m (at_in lines) l → HolderAlone m (at_in (drain_from blocks lines mem).lines) l
+  drained_holder : (l : Ledger) → HolderAlone m (at_in lines) l → HolderAlone m (at_in (drain_from blocks lines mem).lines) l
   drained_holder l h = holder_fewer m (at_in lines) (at_in (drain_from blocks lines mem).lines) (drained_fewer blocks lines mem) l h
 
 module _ (m : Measures) (lines : List Line) (mem : Mem) where
@@ -261,7 +262,7 @@ module _ (m : Measures) (lines : List Line) (mem : Mem) where
       by_way (λ ls me. (b : ℕ) → length (me.words b) ≡ 4)
       (drained_four 0 lines mem (words_four (at_in lines) mem.words truth c four) all) all
 
-  pub rule_memory : (truth : ℕ → List ℕ) → Coherent (at_in lines) mem.words truth → (d : Drained) → (drain_rule m lines mem).answer ≡ Ok d
+  rule_memory : (truth : ℕ → List ℕ) → Coherent (at_in lines) mem.words truth → (d : Drained) → (drain_rule m lines mem).answer ≡ Ok d
       → (block : ℕ) → (drain_rule m lines mem).memory.words block ≡ truth block
   rule_memory truth c d h block = elim drain_way [
     | inl done ↦ ap (λ o. o.memory.words block) done ∙ finished (drain_from 0 lines mem).answer refl (ap (λ o. o.answer) (sym done) ∙ h)

@@ -33,7 +33,7 @@ use Rattle.law.proofs.Owning.{Only, only_cleared, only_exclusive}
 use Rattle.law.proofs.Places.{FoundAt, found_at}
 use Rattle.law.proofs.Placing.{placed_at, hit_moved}
 use Rattle.law.proofs.Shapes.{found, action_of}
-use Rattle.law.proofs.Doing.{taken_with, Done, ok_same, made_state, made_line, made_named, purging_is, same_words, stale_by, takes_locked}
+use Rattle.law.proofs.Doing.{taken_with, Done, made_state, made_line, made_named, unasked_supply, purging_is, same_words, stale_by, takes_locked}
 
 module _ {m : Measures} (some_columns : 0 < m.columns) {ps : List Processor} {lines : List Line} {locks : List LockEntry} {mem : Mem} {q : Request}
     (fit : length lines ≡ line_count m) (homed : Homed m (at_in lines)) {truth : ℕ → List ℕ} (coherent : Coherent (at_in lines) mem.words truth)
@@ -52,9 +52,6 @@ module _ {m : Measures} (some_columns : 0 < m.columns) {ps : List Processor} {li
 
   abbrev pub own : Line
   own = made_line d
-
-  abbrev pub after : List Line
-  after = placed (own_place (line_of m lines q.processor block) (taken_with m ps lines locks mem q d.effect)) own (bus_seen m bus q.processor block lines)
 
   -- in the own cache
   module _ (k : ℕ) (e : line_of m lines q.processor block ≡ Some k) where
@@ -77,14 +74,9 @@ module _ {m : Measures} (some_columns : 0 < m.columns) {ps : List Processor} {li
     cell = hit acting d.effect (found m ps lines locks mem q) found_valid d.cell
 
     supply_is : d.supply ≡ record { words = (at_in lines k).words; from = None }
-    supply_is =
-        ok_same d.supply (record { words = (at_in lines k).words; from = None })
-        (sym d.given
-        ∙ ap (λ b. cond b (supplied_by m lines mem block (supplier_of m lines q.processor block))
-        (Ok (record { words = (line_at lines (line_of m lines q.processor block)).words; from = None }))) cell.unasked
-        ∙ ap (λ p. Ok (record { words = (line_at lines p).words; from = None })) e)
+    supply_is = unasked_supply d cell.unasked ∙ ap (λ p. record { words = (line_at lines p).words; from = None }) e
 
-    pub hit_left : left ≡ d.effect.from_memory
+    hit_left : left ≡ d.effect.from_memory
     hit_left = ap (λ s. state_left d.effect s.from) supply_is
 
     pub hit_words : d.supply.words ≡ truth block

@@ -32,7 +32,8 @@ abbrev pub held_after : Command → ℕ → ℕ → Ledger → ℕ → ℕ → B
 held_after c processor address l p a =
     cond (takes_lock c) (changed processor address true l p a) (cond (releases_lock c) (changed processor address false l p a) (l.holds p a))
 
-pub done_holds : (l : Ledger) (c : Command) (processor address : ℕ) (b : Bool) (p a : ℕ) → (done_by processor address b c l).holds p a ≡ held_after c processor address l p a
+done_holds : (l : Ledger) (c : Command) (processor address : ℕ) (b : Bool) (p a : ℕ)
+    → (done_by processor address b c l).holds p a ≡ held_after c processor address l p a
 done_holds l R processor address b p a = refl
 done_holds l (W word) processor address b p a = refl
 done_holds l (DW word) processor address b p a = cond_both (eqb (address % 4) 0) _ _ (λ (k : Ledger). k.holds p a ≡ l.holds p a) (λ e. refl) (λ e. refl)
@@ -72,13 +73,13 @@ held_by m locks p a = count_by (locks_from a a) (window_of (locks_start m p) m.l
 
 module _ (m : Measures) (locks : List LockEntry) where
   -- an entry of one processor's window exchanged: the others see nothing of it
-  pub kept_apart : (p0 p a place : ℕ) (e : LockEntry) → (p ≡ p0 → ⊥) → locks_start m p0 ≤ place → place < locks_start m p0 + m.lock_entries
+  kept_apart : (p0 p a place : ℕ) (e : LockEntry) → (p ≡ p0 → ⊥) → locks_start m p0 ≤ place → place < locks_start m p0 + m.lock_entries
       → held_by m (set locks place e) p a ≡ held_by m locks p a
   kept_apart p0 p a place e other low high =
       ap (count_by (locks_from a a)) (window_outside locks (locks_start m p) m.lock_entries place e
       (apart m.lock_entries p0 p place (λ same. other (sym same)) low high))
 
-  pub exchanged : (p0 a place : ℕ) (test : LockEntry → Bool) (e : LockEntry) → EntryAt m locks p0 test place
+  exchanged : (p0 a place : ℕ) (test : LockEntry → Bool) (e : LockEntry) → EntryAt m locks p0 test place
       → held_by m (set locks place e) p0 a + cond (locks_from a a (get_or locks place blank_entry)) 1 0 ≡ held_by m locks p0 a + cond (locks_from a a e) 1 0
   exchanged p0 a place test e found =
       let s = locks_start m p0 in
@@ -93,10 +94,11 @@ module _ (m : Measures) (locks : List LockEntry) where
       (λ i. count_by (locks_from a a) (window_inside locks s n place e j at low i) + cond (locks_from a a (same i)) 1 0)
       ∙ sum_by-set (λ x. cond (locks_from a a x) 1 0) (window_of s n locks) j e blank_entry there
 
-  pub kept_waited : (asking block p a : ℕ) → held_by m (waited_for m locks asking block) p a ≡ held_by m locks p a
+  kept_waited : (asking block p a : ℕ) → held_by m (waited_for m locks asking block) p a ≡ held_by m locks p a
   kept_waited asking block p a =
       ap (count_by (locks_from a a)) (window-map (waited_at m asking block) (locks_start m p) m.lock_entries locks)
-      ∙ count-map (locks_from a a) (waited_at m asking block) (λ i e. waited_seen m asking block a i e) (0 + locks_start m p) (window_of (locks_start m p) m.lock_entries locks)
+      ∙ count-map (locks_from a a) (waited_at m asking block) (λ i e. waited_seen m asking block a i e)
+      (0 + locks_start m p) (window_of (locks_start m p) m.lock_entries locks)
 
   -- the entries after a done command
   module _ (q : Request) (l : Ledger) (known : q.processor < m.processors)
@@ -196,7 +198,8 @@ module _ (m : Measures) (locks : List LockEntry) where
         ap (λ b. held_by m (set locks place (cond b (locked_at a0) blank_entry)) p a) takes ∙ gave place same p listed a
 
     -- by what the command does with locks
-    settled : (c : Command) → q.command ≡ c → (takes_lock c && is_some (held_entry m locks p0 a0)) ≡ false → (takes_lock c && not (is_some (free_entry m locks p0))) ≡ false
+    settled : (c : Command) → q.command ≡ c → (takes_lock c && is_some (held_entry m locks p0 a0)) ≡ false
+        → (takes_lock c && not (is_some (free_entry m locks p0))) ≡ false
         → (releases_lock c && not (is_some (held_entry m locks p0 a0))) ≡ false → (p : ℕ) → p < m.processors → (a : ℕ)
         → held_by m (locks_settled c a0 locks (entry_used m locks q)) p a ≡ cond (held_after c p0 a0 l p a) 1 0
     settled R e x y z p listed a = rw e (agree p listed a)

@@ -28,7 +28,8 @@ pub record Truth (after : ℕ → Line) (mem : ℕ → List ℕ) (l : Ledger) : 
 abbrev pub own_line : Command → ℕ → List ℕ → State → Line
 own_line c address ws left = in_state (record { state = left; block = block_of address; words = words_left c address ws }) left
 
-pub own_named : (c : Command) (address : ℕ) (ws : List ℕ) (left : State) → valid (own_line c address ws left).state ≡ true → (own_line c address ws left).block ≡ block_of address
+pub own_named : (c : Command) (address : ℕ) (ws : List ℕ) (left : State) → valid (own_line c address ws left).state ≡ true
+    → (own_line c address ws left).block ≡ block_of address
 own_named c address ws left v = block_in_state (record { state = left; block = block_of address; words = words_left c address ws }) left v
 
 module _ {m : Measures} {at after : ℕ → Line} {k asking : ℕ} {bus : Option BusCommand} (c : Command) (address : ℕ) (ws : List ℕ) (left : State)

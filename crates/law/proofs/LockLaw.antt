@@ -53,7 +53,8 @@ address_in l block p h = elim (one_of_four (l.holds p (4 * block)) (l.holds p (4
 
 pub block_in : (l : Ledger) (block p a : ℕ) → block_of a ≡ block → l.holds p a ≡ true → locks_in l block p ≡ true
 block_in l block p a e h =
-    four_of_one (l.holds p (4 * block)) (l.holds p (4 * block + 1)) (l.holds p (4 * block + 2)) (l.holds p (4 * block + 3)) (by_place (eqb_tells a (4 * block)) (eqb_tells a (4 * block + 1)) (eqb_tells a (4 * block + 2)))
+    four_of_one (l.holds p (4 * block)) (l.holds p (4 * block + 1)) (l.holds p (4 * block + 2)) (l.holds p (4 * block + 3))
+    (by_place (eqb_tells a (4 * block)) (eqb_tells a (4 * block + 1)) (eqb_tells a (4 * block + 2)))
   where
     is_at : (c : ℕ) → a ≡ c → l.holds p c ≡ true
     is_at c same = subst (λ x. l.holds p x ≡ true) same h
@@ -94,7 +95,7 @@ module _ (m : Measures) (b : Board) (l : Ledger) (k : Kept m b l) where
       ∙ entry_found m b.locks p (locks_from e.address e.address) place
       (record { from = h.from; to = h.to; inside = h.inside; passes = at_its_address e.address e h.passes refl })
 
-  pub has_lock_is : (block p : ℕ) → p < m.processors → has_lock m b.locks block p ≡ locks_in l block p
+  has_lock_is : (block p : ℕ) → p < m.processors → has_lock m b.locks block p ≡ locks_in l block p
   has_lock_is block p low = both_ways (has_lock m b.locks block p) (locks_in l block p) there back
     where
       there : has_lock m b.locks block p ≡ true → locks_in l block p ≡ true

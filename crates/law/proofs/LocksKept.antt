@@ -113,7 +113,8 @@ module _ (m : Measures) (b : Board) (l : Ledger) (k : Kept m b l) (one : OneHold
         by_cell (valid found) (is_direct_write acts) (is_unlock acts) (asks_for_block effect.bus || effect.lk) refl refl refl cell
         (not_elsewhere (is_direct_write acts) (valid found) _ (is_some holder) facts.alone)
         (λ u. sym (held_is m b l k q.processor q.address low)
-        ∙ has_it (releases_lock q.command) (is_some (held_entry m b.locks q.processor q.address)) facts.held (ap releases_lock (acts_unlock q.address found _ q.command u)))
+        ∙ has_it (releases_lock q.command) (is_some (held_entry m b.locks q.processor q.address)) facts.held
+        (ap releases_lock (acts_unlock q.address found _ q.command u)))
         (no_hit (asks_for_block effect.bus) effect.lk holder hit)
       where
         by_cell : (v d u g : Bool) → valid found ≡ v → is_direct_write acts ≡ d → is_unlock acts ≡ u → (v || (d || (u || g))) ≡ true

@@ -51,7 +51,7 @@ window_with n (suc count) i h = elim (leb_tells (count * n) i) [
   | inr below ↦ (let (p, low, from, to) = window_with n count i below.1 in (p, omega (arith, low), from, to))
 ]
 
-pub marked_locked : (m : Measures) (b : Board) (l : Ledger) → Kept m b l → (block : ℕ) → Marked b.locks block → locked m l block ≡ true
+marked_locked : (m : Measures) (b : Board) (l : Ledger) → Kept m b l → (block : ℕ) → Marked b.locks block → locked m l block ≡ true
 marked_locked m b l k block mark =
     let inside = mark.inside in
     let fit = k.fit in
@@ -62,7 +62,7 @@ marked_locked m b l k block mark =
     (entry_holds m b l k p mark.place low (record { from = from; to = to; inside = inside; passes = waited_used e mark.waited })))
 
 -- without a lock in the block nobody waits for it
-pub nobody_waits : (m : Measures) (b : Board) (l : Ledger) → Kept m b l → AllMarked b.locks l → (block : ℕ) → locked m l block ≡ false
+nobody_waits : (m : Measures) (b : Board) (l : Ledger) → Kept m b l → AllMarked b.locks l → (block : ℕ) → locked m l block ≡ false
     → (r : ℕ) → waits_in block (l.waits r) ≡ false
 nobody_waits m b l k marked block free r = by_wait (l.waits r) refl
   where
@@ -154,7 +154,9 @@ module _ (m : Measures) (locks : List LockEntry) (q : Request) where
       → (ul_sent q.command locks entry ≡ true → to ≡ block_of q.address → ⊥) → Marked (locks_settled q.command q.address locks entry) to
   marked_settled None same to mark quiet = mark
   marked_settled (Some i) same to mark quiet = elim (eqb_tells mark.place i) [
-    | inl here ↦ absurd (not_here (subst (λ k. somebody_waits (get_or locks k blank_entry) ≡ true) here.1 mark.waited) (subst (λ k. block_of (get_or locks k blank_entry).address ≡ to) here.1 mark.here))
+    | inl here ↦
+        absurd (not_here (subst (λ k. somebody_waits (get_or locks k blank_entry) ≡ true) here.1 mark.waited)
+        (subst (λ k. block_of (get_or locks k blank_entry).address ≡ to) here.1 mark.here))
     | inr other ↦
         let stays = get_or-set_other locks i mark.place _ blank_entry other.1 in
         record {

@@ -40,10 +40,10 @@ use Rattle.law.proofs.Replacing.{without, without_here, without_fewer, copy_fewe
 use Rattle.law.proofs.Shapes.{found, action_of}
 use Rattle.law.proofs.Taking.{way_home}
 use Rattle.law.proofs.Words.{fresh}
-use Rattle.law.proofs.Doing.{taken_with, Done, ok_same, made_state, made_line, made_named, fresh_made, purging_is, same_words, stale_by, takes_locked}
+use Rattle.law.proofs.Doing.{taken_with, Done, ok_same, made_state, made_line, made_named, unasked_supply, asked_supply, fresh_made, purging_is, same_words, stale_by, takes_locked}
 
-module _ {m : Measures} (some_columns : 0 < m.columns) (some_ways : 0 < m.ways) {ps : List Processor} {lines : List Line} {locks : List LockEntry} {mem : Mem} {q : Request}
-    (fit : length lines ≡ line_count m) (homed : Homed m (at_in lines)) {truth : ℕ → List ℕ} (coherent : Coherent (at_in lines) mem.words truth)
+module _ {m : Measures} (some_columns : 0 < m.columns) (some_ways : 0 < m.ways) {ps : List Processor} {lines : List Line} {locks : List LockEntry} {mem : Mem}
+    {q : Request} (fit : length lines ≡ line_count m) (homed : Homed m (at_in lines)) {truth : ℕ → List ℕ} (coherent : Coherent (at_in lines) mem.words truth)
     {o : Outcome} (d : Done m ps lines locks mem q o) (e : line_of m lines q.processor (q.address / 4) ≡ None) where
   abbrev block : ℕ
   block = q.address / 4
@@ -77,11 +77,8 @@ module _ {m : Measures} (some_columns : 0 < m.columns) (some_ways : 0 < m.ways) 
     by_memory : left ≡ d.effect.from_memory → d.supply.words ≡ truth block → ((i : ℕ) → copy (at_in lines) block i → ⊥) → Supplied
 
   supplied_so : asks_for_block bus ≡ true → Supplied
-  supplied_so asks = by_copy (supplier_of m lines q.processor block) refl (sym (ap (λ b. cond b (supplied_by m lines mem block (supplier_of m lines q.processor block)) own_words) asks) ∙ d.given)
+  supplied_so asks = by_copy (supplier_of m lines q.processor block) refl (asked_supply d asks)
     where
-      own_words : Result Supply Refusal
-      own_words = Ok (record { words = (line_at lines (line_of m lines q.processor block)).words; from = None })
-
       by_memory_if : supplier_of m lines q.processor block ≡ None → (b : Bool)
           → ◌≡◌ {A = Result Supply Refusal} (cond b (Ok (record { words = mem.words block; from = Some Memory })) (Err (RefusedByMemory block Read))) (Ok d.supply)
           → Supplied
@@ -170,15 +167,13 @@ module _ {m : Measures} (some_columns : 0 < m.columns) (some_ways : 0 < m.ways) 
       words : fresh q.command q.address ≡ false → d.supply.words ≡ truth block
 
     unasked_memory : bus ≡ None → left ≡ d.effect.from_memory
-    unasked_memory b =
-        let given : ◌≡◌ {A = Result Supply Refusal} (Ok (record { words = (line_at lines (line_of m lines q.processor block)).words; from = None })) (Ok d.supply) =
-        sym (ap (λ x. cond (asks_for_block x) (supplied_by m lines mem block (supplier_of m lines q.processor block))
-        (Ok (record { words = (line_at lines (line_of m lines q.processor block)).words; from = None }))) b) ∙ d.given in
-        ap (λ x. state_left d.effect x.from) (sym (ok_same (record { words = (line_at lines (line_of m lines q.processor block)).words; from = None }) d.supply given))
+    unasked_memory b = ap (λ x. state_left d.effect x.from) (unasked_supply d (ap asks_for_block b))
 
-    -- refusal 9 kept a DW from a block that another cache has
+    -- a DW of a block that another cache has was refused
     made_alone : is_direct_write acting ≡ true → (i : ℕ) → copy (at_in lines) block i → ⊥
-    made_alone h = none_there (by_some (supplier_of m lines q.processor block) (or_parts _ _ (by_bools (is_direct_write acting) (valid (found m ps lines locks mem q)) _ h (ap valid found_is) d.alone)).0)
+    made_alone h =
+        let nowhere = by_bools (is_direct_write acting) (valid (found m ps lines locks mem q)) _ h (ap valid found_is) d.alone in
+        none_there (by_some (supplier_of m lines q.processor block) (or_parts _ _ nowhere).0)
       where
         by_bools : (w v r : Bool) → w ≡ true → v ≡ false → (w && not v && r) ≡ false → r ≡ false
         by_bools true false r f g x = x

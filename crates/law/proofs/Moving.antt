@@ -43,13 +43,13 @@ module _ {m : Measures} {at after : ℕ → Line} {block k asking : ℕ} {bus : 
       by_other (stayed was is) = subst (λ x. holds_block b x ≡ true) is c
 
   -- the copy at the place is one of the block
-  pub own_copy : (b : ℕ) → copy after b k → b ≡ block
+  own_copy : (b : ℕ) → copy after b k → b ≡ block
   own_copy b c =
       let here : holds_block b own ≡ true = subst (λ x. holds_block b x ≡ true) moved.place c in
       sym (copy_block b own here) ∙ moved.named (copy_valid b own here)
 
   -- other blocks' lines are as they were
-  pub same_before : (b i : ℕ) → (b ≡ block → ⊥) → copy at b i → after i ≡ at i
+  same_before : (b i : ℕ) → (b ≡ block → ⊥) → copy at b i → after i ≡ at i
   same_before b i else c = elim (eqb_tells i k) [
     | inl same ↦ absurd (else (moved.here b (subst (λ x. copy at b x) same.1 c)))
     | inr far ↦ by_other (other i far.1)

@@ -76,7 +76,9 @@ module _ (at : ℕ → Line) (v : ℕ) where
     all_clean : (block : ℕ) → (modified (at v).state && eqb block (at v).block) ≡ false
         → ((i : ℕ) → copy without block i → modified (without i).state ≡ false) → (i : ℕ) → copy at block i → modified (at i).state ≡ false
     all_clean block other all i h = elim (eqb_tells i v) [
-      | inl here ↦ ap (λ k. modified (at k).state) here.1 ∙ by_state (modified (at v).state) (eq-eqb block (at v).block (sym (copy_block block (at v) (subst (copy at block) here.1 h)))) other
+      | inl here ↦
+          let same_block = copy_block block (at v) (subst (copy at block) here.1 h) in
+          ap (λ k. modified (at k).state) here.1 ∙ by_state (modified (at v).state) (eq-eqb block (at v).block (sym same_block)) other
       | inr elsewhere ↦
           let kept = without_elsewhere i elsewhere.1 in
           ap (λ line. modified line.state) (sym kept) ∙ all i (ap (holds_block block) kept ∙ h)

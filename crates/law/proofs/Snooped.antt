@@ -21,7 +21,7 @@ module _ (m : Measures) (some_columns : 0 < m.columns) (bus : BusCommand) (askin
   abbrev pub left_at : ℕ → Line → Line
   left_at i line = cond (holds_block block line && not (eqb (owner m i) asking)) (heard (Some bus) line) line
 
-  pub left_kept : (i : ℕ) (line : Line) → BlockKept line (left_at i line)
+  left_kept : (i : ℕ) (line : Line) → BlockKept line (left_at i line)
   left_kept i line = by_test (holds_block block line && not (eqb (owner m i) asking))
     where
       by_test : (b : Bool) → BlockKept line (cond b (heard (Some bus) line) line)
@@ -31,7 +31,7 @@ module _ (m : Measures) (some_columns : 0 < m.columns) (bus : BusCommand) (askin
   abbrev after : ℕ → List Line → List Line
   after p lines = other_snooped m bus asking block p lines
 
-  pub length_snooped_at : (lines : List Line) (o : Option ℕ) → length (snooped_at bus lines o) ≡ length lines
+  length_snooped_at : (lines : List Line) (o : Option ℕ) → length (snooped_at bus lines o) ≡ length lines
   length_snooped_at lines None = refl
   length_snooped_at lines (Some place) = length-set lines place _
 
@@ -68,7 +68,7 @@ module _ (m : Measures) (some_columns : 0 < m.columns) (bus : BusCommand) (askin
         found = found_at m some_columns lines fit homed p block place listed e
 
         inside : place < length lines
-        inside = let home = found.home in window_inside_table m some_columns lines fit p block place listed (subst (λ o. place < window_start m o block + m.ways) found.owned home.to)
+        inside = window_inside_table m some_columns lines fit (owner m place) block place found.home.listed found.home.to
 
         new : Line
         new = heard (Some bus) (at_in lines place)
@@ -145,14 +145,16 @@ module _ (m : Measures) (some_columns : 0 < m.columns) (bus : BusCommand) (askin
   from_inside (suc count) p lines fit homed room i low high =
       let listed : p < m.processors = omega (arith, room) in
       by_owner listed (eqb_tells (owner m i) p)
-      (λ above. from_inside count (p + 1) (after p lines) (length_after p lines ∙ fit) (homed_after lines fit homed p listed) (omega (arith, room)) i above (omega (arith, high)))
+      (λ above. from_inside count (p + 1) (after p lines) (length_after p lines ∙ fit) (homed_after lines fit homed p listed) (omega (arith, room))
+      i above (omega (arith, high)))
     where
       by_owner : p < m.processors → ((eqb (owner m i) p ≡ true) × (owner m i ≡ p)) ⊎ ((eqb (owner m i) p ≡ false) × (owner m i ≡ p → ⊥))
           → (p + 1 ≤ owner m i → at_in (snooped_from m bus asking block (p + 1) count (after p lines)) i ≡ left_at i (at_in (after p lines) i))
           → at_in (snooped_from m bus asking block (p + 1) count (after p lines)) i ≡ left_at i (at_in lines i)
       by_owner listed (inl same) rest =
           let here = same.1 in
-          from_outside count (p + 1) (after p lines) (length_after p lines ∙ fit) (homed_after lines fit homed p listed) (omega (arith, room)) i (inl (omega (arith, here)))
+          from_outside count (p + 1) (after p lines) (length_after p lines ∙ fit) (homed_after lines fit homed p listed) (omega (arith, room))
+          i (inl (omega (arith, here)))
           ∙ after_here lines fit homed p listed i here
       by_owner listed (inr other) rest = rest (above (leb_tells (p + 1) (owner m i))) ∙ ap (left_at i) (after_away lines fit homed p listed i other.1)
         where
@@ -174,12 +176,6 @@ module _ (m : Measures) (some_columns : 0 < m.columns) (bus : BusCommand) (askin
       where
         never : m.processors ≤ owner m i → (holds_block block (at_in lines i) && not (eqb (owner m i) asking)) ≡ true → ⊥
         never out h =
-            let home = copy_home m some_columns lines fit homed block i (let both = and_parts (holds_block block (at_in lines i)) (not (eqb (owner m i) asking)) h in both.0) in
-            let listed = home.listed in
+            let both = and_parts (holds_block block (at_in lines i)) (not (eqb (owner m i) asking)) h in
+            let listed = (copy_home m some_columns lines fit homed block i both.0).listed in
             absurd (omega (arith, out, listed))
-
-    pub others_kept : (i : ℕ) → BlockKept (at_in lines i) (at_in (others_snooped m bus asking block lines) i)
-    others_kept i = subst (BlockKept (at_in lines i)) (sym (snooped_at_places i)) (left_kept i (at_in lines i))
-
-    pub homed_snooped : Homed m (at_in (others_snooped m bus asking block lines))
-    homed_snooped = homed_kept m (at_in lines) (at_in (others_snooped m bus asking block lines)) others_kept homed

@@ -47,12 +47,3 @@ module _ (m : Measures) (some_columns : 0 < m.columns) (some_ways : 0 < m.ways) 
       by_free None e =
           let low : turn % m.ways < m.ways = mod-lt turn some_ways in
           way_in (start + turn % m.ways) (omega arith) (omega (arith, low))
-
-  -- a way not by turn is I
-  pub way_free : (taken_way m lines p block turn).by_turn ≡ false → valid (at_in lines (taken_way m lines p block turn).place).state ≡ false
-  way_free h = by_free (free_way m lines p block) refl h
-    where
-      by_free : (o : Option ℕ) → free_way m lines p block ≡ o → (chosen_way o (start + turn % m.ways)).by_turn ≡ false
-          → valid (at_in lines (chosen_way o (start + turn % m.ways)).place).state ≡ false
-      by_free (Some place) e h = not-true (valid (at_in lines place).state) (found place e).passes
-      by_free None e h = absurd (cc)

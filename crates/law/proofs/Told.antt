@@ -31,11 +31,12 @@ use Rattle.std.proofs.lemmas.List.Folds.{sum_by-replicate}
 use Rattle.std.proofs.lemmas.List.Sums.{sum_by-take-drop, sum_by-take-le}
 
 -- the tables keep their lengths
-pub length_settled : (c : Command) (a : ℕ) (locks : List LockEntry) (entry : Option ℕ) → length (locks_settled c a locks entry) ≡ length locks
+length_settled : (c : Command) (a : ℕ) (locks : List LockEntry) (entry : Option ℕ) → length (locks_settled c a locks entry) ≡ length locks
 length_settled c a locks None = refl
 length_settled c a locks (Some place) = length-set locks place _
 
-length_processors : (m : Measures) (ps : List Processor) (locks : List LockEntry) (c : Case) (taken : Option Taken) → length (processors_after m ps locks c taken) ≡ length ps
+length_processors : (m : Measures) (ps : List Processor) (locks : List LockEntry) (c : Case) (taken : Option Taken)
+    → length (processors_after m ps locks c taken) ≡ length ps
 length_processors m ps locks c taken = by_both (ul_sent c.command locks c.entry) (by_turn taken) refl refl
   where
     turned : (t : Bool) → by_turn taken ≡ t → length (turns_after m ps c taken) ≡ length ps
@@ -70,7 +71,9 @@ some_one false = refl
 
 pub accounts : (m : Measures) (b : Board) (l : Ledger) → Kept m b l → Accounts m b l
 accounts m b l k = record {
-  locks = λ p a h. first_counted (locks_from a a) (locks_start m p) (window_of (locks_start m p) m.lock_entries b.locks) ∙ ap (ltb 0) (k.held p h a) ∙ some_one (l.holds p a);
+  locks = λ p a h.
+      first_counted (locks_from a a) (locks_start m p) (window_of (locks_start m p) m.lock_entries b.locks)
+      ∙ ap (ltb 0) (k.held p h a) ∙ some_one (l.holds p a);
   waits = k.waits;
 }
 
