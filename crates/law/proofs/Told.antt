@@ -24,8 +24,9 @@ use Rattle.law.specs.Calls.{Call, command, drain, census, question, Board, comma
 use Rattle.law.specs.Ledger.{Ledger, opened, fed}
 use Rattle.law.proofs.Awaits.{waits_kept}
 use Rattle.law.proofs.Holds.{held_by, holds_kept}
+use Rattle.law.proofs.Invariant.{throughout}
 use Rattle.law.proofs.Shapes.{Shape, refused, waited, finished, shape}
-use Rattle.law.proofs.Windows.{first_counted, length-map}
+use Rattle.law.proofs.Windows.{first_counted, length-map, seen-replicate}
 use Rattle.std.specs.List.{count_by}
 use Rattle.std.proofs.lemmas.List.Folds.{sum_by-replicate}
 use Rattle.std.proofs.lemmas.List.Sums.{sum_by-take-drop, sum_by-take-le}
@@ -91,18 +92,9 @@ kept_on m b l few k drain = record { eight = k.eight; fit = k.fit; waits = k.wai
 kept_on m b l few k census = k
 kept_on m b l few k (question address) = k
 
-throughout : (m : Measures) (b : Board) (l : Ledger) → m.processors ≤ 8 → Kept m b l → (calls : List Call) → Throughout (Accounts m) m b l calls
-throughout m b l few k [] = accounts m b l k
-throughout m b l few k (call ∷ calls) = (accounts m b l k, throughout m (left_by m b call) (fed call (said_by m b call) l) few (kept_on m b l few k call) calls)
-
 -- a new cluster has no locks, and nobody waits
 blank_counted : (a k : ℕ) → count_by (locks_from a a) (replicate k blank_entry) ≡ 0
 blank_counted a k = sum_by-replicate (λ x. cond (locks_from a a x) 1 0) k blank_entry ∙ omega arith
-
-at_rest : (k r : ℕ) → (get_or (replicate k resting) r resting).waits_for ≡ None
-at_rest zero r = refl
-at_rest (suc k) zero = refl
-at_rest (suc k) (suc r) = at_rest k r
 
 nobody : (b : Bool) (w : Option ℕ) → w ≡ None → cond b w None ≡ None
 nobody true w e = e
@@ -112,7 +104,7 @@ pub new_kept : (m : Measures) (mem : Mem) → Kept m (new_board m mem) (opened m
 new_kept m mem = record {
   eight = length-replicate 8 resting;
   fit = length-replicate (lock_count m) blank_entry;
-  waits = λ r. nobody (ltb r m.processors) _ (at_rest 8 r);
+  waits = λ r. nobody (ltb r m.processors) _ (seen-replicate (λ p. p.waits_for) 8 r resting resting refl);
   held = λ p h a.
       let one = λ (e : LockEntry). cond {A = ℕ} (locks_from a a e) 1 0 in
       let blank = replicate (lock_count m) blank_entry in
@@ -122,4 +114,6 @@ new_kept m mem = record {
 }
 
 pub locks_told : LocksAreTold
-locks_told g mem calls = throughout g.measures (new_board g.measures mem) (opened mem) g.few_processors (new_kept g.measures mem) calls
+locks_told g mem =
+    let m = g.measures in
+    throughout m (Accounts m) (Kept m) (accounts m) (λ b l. kept_on m b l g.few_processors) (new_board m mem) (opened mem) (new_kept m mem)

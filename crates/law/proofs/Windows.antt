@@ -1,5 +1,5 @@
 -- Tables of entries: searches and counts over a window, an entry exchanged, entries changed by their place.
-use Rattle.std.proofs.Common.{◌≡◌, ℕ, zero, suc, ◌+◌, ◌-◌, ◌*◌, ◌<◌, ◌≤◌, Bool, true, false, cond, ltb, ◌⊎◌, List, [], ◌∷◌, length, get_or, take, drop, set, is_some, Some, None, Option, sym, refl, ap, ◌∙◌, inl, inr, mul-le-mul_right, suc-mul, arith, length-drop, length-take, drop-set-lt}
+use Rattle.std.proofs.Common.{◌≡◌, ℕ, zero, suc, ◌+◌, ◌-◌, ◌*◌, ◌<◌, ◌≤◌, Bool, true, false, cond, ltb, ◌⊎◌, List, [], ◌∷◌, length, get_or, take, drop, replicate, set, is_some, Some, None, Option, sym, refl, ap, ◌∙◌, inl, inr, mul-le-mul_right, suc-mul, arith, length-drop, length-take, drop-set-lt}
 use lib.Seq.{take-set-le, take-set-lt, drop-set-add}
 use Rattle.std.specs.List.{count_by, position_or_len}
 use Rattle.std.proofs.lemmas.Bool.{false≢true}
@@ -103,6 +103,12 @@ module _ {X : Type 0} (xs : List X) (s n i : ℕ) (e : X) where
   pub window_inside : (j : ℕ) → i ≡ s + j → j < n → window_of s n (set xs i e) ≡ set (window_of s n xs) j e
   window_inside j at low =
       ap (λ k. take n (drop s (set xs k e))) at ∙ ap (take n) (drop-set-add s xs j e) ∙ take-set-lt n (drop s xs) j e low
+
+-- a table of equal entries, by what its entries and the one past its end have in common
+pub seen-replicate : {X Y : Type 0} (f : X → Y) (n i : ℕ) (x d : X) → f x ≡ f d → f (get_or (replicate n x) i d) ≡ f d
+seen-replicate f zero i x d e = refl
+seen-replicate f (suc n) zero x d e = e
+seen-replicate f (suc n) (suc i) x d e = seen-replicate f n i x d e
 
 -- windows of two processors do not overlap
 pub apart : (n p q i : ℕ) → (p ≡ q → ⊥) → p * n ≤ i → i < p * n + n → (i < q * n) ⊎ (q * n + n ≤ i)
