@@ -1,5 +1,5 @@
 -- A done command whose own cache has the block.
-use Rattle.std.proofs.Common.{◌≡◌, ℕ, ◌/◌, ◌<◌, Bool, true, false, cond, not, ◌&&◌, List, length, get_or, Some, None, Ok, Option, sym, refl, ap, ◌∙◌, inl, inr}
+use Rattle.std.proofs.Common.{◌≡◌, ℕ, ◌/◌, ◌<◌, Bool, true, false, cond, not, ◌&&◌, List, length, get_or, Some, None, Option, sym, refl, ap, ◌∙◌, inl, inr}
 use Rattle.std.proofs.lemmas.Bool.{or_cases}
 use Rattle.protocol.specs.declared.command.Action.{Action}
 use Rattle.protocol.specs.declared.command.BusCommand.{BusCommand}
@@ -14,10 +14,8 @@ use Rattle.protocol.specs.Lines.{in_state}
 use Rattle.protocol.specs.Places.{line_count}
 use Rattle.memory.specs.Meaning.{Mem}
 use Rattle.cluster.specs.declared.cluster.Processor.{Processor}
-use Rattle.cluster.specs.Cases.{own_place}
-use Rattle.cluster.specs.Copies.{line_of, line_at, supplier_of}
-use Rattle.cluster.specs.Doing.{is_unlock, supplied_by, state_left}
-use Rattle.cluster.specs.Finishing.{placed, bus_seen}
+use Rattle.cluster.specs.Copies.{line_of, line_at}
+use Rattle.cluster.specs.Doing.{is_unlock, state_left}
 use Rattle.cluster.specs.Making.{resting}
 use Rattle.cluster.specs.Rule.{Outcome}
 use Rattle.cluster.specs.Settling.{takes_lock}

@@ -112,12 +112,12 @@ module _ (m : Measures) (locks : List LockEntry) where
     other_same : (p a : ℕ) (held : Bool) → eqb p p0 ≡ false → l.holds p a ≡ changed p0 a0 held l p a
     other_same p a held e = rw e refl
 
-    one_of : (b : Bool) (n : ℕ) → n ≡ cond b 1 0 → n ≡ 0 → b ≡ false
-    one_of true n e z = absurd (omega (arith, e, z))
-    one_of false n e z = refl
+    none_held : (b : Bool) (n : ℕ) → n ≡ cond b 1 0 → n ≡ 0 → b ≡ false
+    none_held true n e z = absurd (omega (arith, e, z))
+    none_held false n e z = refl
 
-    not_none : (n : ℕ) → ltb 0 n ≡ false → n ≡ 0
-    not_none n h = grind (arith, nat_tests)
+    zero_by_test : (n : ℕ) → ltb 0 n ≡ false → n ≡ 0
+    zero_by_test n h = grind (arith, nat_tests)
 
     one_held : (b : Bool) (n : ℕ) → n ≡ cond b 1 0 → 1 ≤ n → n ≡ 1
     one_held true n e z = e
@@ -153,8 +153,8 @@ module _ (m : Measures) (locks : List LockEntry) where
             ∙ exchanged p0 a place (unused in_use) (locked_at a0) found ∙ ap (λ b. held_by m locks p0 a + cond b 1 0) (locked_seen a a0)
 
         free_of : l.holds p0 a0 ≡ false
-        free_of = one_of (l.holds p0 a0) (held_by m locks p0 a0) (agree p0 known a0)
-            (not_none (held_by m locks p0 a0) (sym (first_counted (locks_from a0 a0) (locks_start m p0) (window_of (locks_start m p0) m.lock_entries locks)) ∙ none))
+        free_of = none_held (l.holds p0 a0) (held_by m locks p0 a0) (agree p0 known a0)
+            (zero_by_test (held_by m locks p0 a0) (sym (first_counted (locks_from a0 a0) (locks_start m p0) (window_of (locks_start m p0) m.lock_entries locks)) ∙ none))
 
         own : (a x : ℕ) → x + 0 ≡ held_by m locks p0 a + cond (eqb a a0) 1 0 → x ≡ cond (cond (eqb a a0) true (l.holds p0 a)) 1 0
         own a x e = elim (eqb_tells a a0) [

@@ -1,5 +1,5 @@
 -- The law holds throughout every list of calls.
-use Rattle.std.proofs.Common.{◌≡◌, ℕ, zero, suc, ◌/◌, ◌%◌, ◌<◌, ◌≤◌, Bool, true, false, cond, List, [], ◌∷◌, get_or, replicate, IfSome, Some, None, Option, sym, refl, ◌∙◌, subst}
+use Rattle.std.proofs.Common.{◌≡◌, ℕ, ◌/◌, ◌%◌, ◌<◌, ◌≤◌, Bool, true, false, cond, get_or, replicate, IfSome, Some, None, Option, sym, refl, ◌∙◌, subst}
 use lib.ListN.{length-replicate}
 use Rattle.std.proofs.lemmas.Bool.{false≢true}
 use Rattle.protocol.specs.declared.command.Request.{Request}
@@ -11,7 +11,7 @@ use Rattle.memory.specs.Meaning.{Mem, Lawful}
 use Rattle.cluster.specs.Copies.{line_of, line_at}
 use Rattle.cluster.specs.Rule.{Outcome, waiting}
 use Rattle.upkeep.proofs.Counts.{has_columns}
-use Rattle.law.specs.Accounts.{Throughout, new_board}
+use Rattle.law.specs.Accounts.{new_board}
 use Rattle.law.specs.Calls.{Call, command, drain, census, question, Board, command_on, said_by, left_by}
 use Rattle.law.specs.Law.{Law, LawHolds, OnDone, owner, reads}
 use Rattle.law.specs.Ledger.{Ledger, opened, fed, command_fed, word_at, block_of}

@@ -7,7 +7,7 @@ use Rattle.protocol.specs.declared.command.BusCommand.{BusCommand}
 use Rattle.protocol.specs.declared.line.Line.{Line}
 use Rattle.protocol.specs.declared.measures.Measures.{Measures}
 use Rattle.protocol.specs.Lines.{no_line}
-use Rattle.protocol.specs.Places.{line_count, window_start}
+use Rattle.protocol.specs.Places.{line_count}
 use Rattle.cluster.specs.Copies.{holds_block, line_of}
 use Rattle.cluster.specs.Snooping.{snooped_at, cache_snooped, other_snooped, snooped_from, others_snooped}
 use Rattle.law.specs.Law.{owner}

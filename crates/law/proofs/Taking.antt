@@ -1,7 +1,6 @@
 -- The way that a command takes lies in its processor's window.
-use Rattle.std.proofs.Common.{◌≡◌, ℕ, ◌+◌, ◌%◌, ◌<◌, ◌≤◌, Bool, false, List, length, Some, None, Option, refl, arith}
+use Rattle.std.proofs.Common.{◌≡◌, ℕ, ◌+◌, ◌%◌, ◌<◌, ◌≤◌, Bool, List, length, Some, None, Option, refl, arith}
 use Rattle.std.proofs.Math.Nat.{mod-lt}
-use Rattle.std.proofs.lemmas.Bool.{not-true}
 use Rattle.protocol.specs.declared.line.Line.{Line}
 use Rattle.protocol.specs.declared.measures.Measures.{Measures}
 use Rattle.protocol.specs.Entries.{valid}
@@ -10,7 +9,7 @@ use Rattle.protocol.specs.Lines.{no_line}
 use Rattle.protocol.specs.Places.{line_count, window_start}
 use Rattle.cluster.specs.Ways.{free_way, chosen_way, taken_way}
 use Rattle.law.specs.Law.{owner}
-use Rattle.law.proofs.Invariant.{at_in, Home}
+use Rattle.law.proofs.Invariant.{Home}
 use Rattle.law.proofs.Places.{owner_in, home_in, window_inside_table}
 use Rattle.law.proofs.Windows.{Stands, stands}
 

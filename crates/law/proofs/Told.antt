@@ -1,5 +1,5 @@
 -- The cluster's locks and waits are the ledger's throughout.
-use Rattle.std.proofs.Common.{◌≡◌, ℕ, zero, suc, ◌<◌, ◌≤◌, Bool, true, false, cond, ltb, List, [], ◌∷◌, length, get_or, drop, replicate, Some, None, Option, refl, ap, ◌∙◌, arith, length-set}
+use Rattle.std.proofs.Common.{◌≡◌, ℕ, ◌<◌, ◌≤◌, Bool, true, false, cond, ltb, List, length, drop, replicate, Some, None, Option, refl, ap, ◌∙◌, arith, length-set}
 use lib.ListN.{length-replicate}
 use Rattle.protocol.specs.declared.command.Command.{Command}
 use Rattle.protocol.specs.declared.command.Request.{Request}
@@ -19,7 +19,7 @@ use Rattle.cluster.specs.Making.{resting, blank_entry}
 use Rattle.cluster.specs.Rule.{Outcome}
 use Rattle.cluster.specs.Settling.{locks_settled, ul_sent}
 use Rattle.cluster.specs.Waiting.{awaited_in}
-use Rattle.law.specs.Accounts.{Accounts, Throughout, new_board, LocksAreTold}
+use Rattle.law.specs.Accounts.{Accounts, new_board, LocksAreTold}
 use Rattle.law.specs.Calls.{Call, command, drain, census, question, Board, command_on, said_by, left_by}
 use Rattle.law.specs.Ledger.{Ledger, opened, fed}
 use Rattle.law.proofs.Awaits.{waits_kept}
