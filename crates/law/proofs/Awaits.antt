@@ -1,7 +1,7 @@
 -- Who waits: the cluster's processors and the ledger agree.
 use Rattle.std.proofs.Common.{◌≡◌, ℕ, zero, suc, ◌+◌, ◌/◌, ◌%◌, ◌<◌, ◌≤◌, Bool, true, false, cond, ◌&&◌, eqb, ltb, leb, ◌⊎◌, List, [], ◌∷◌, length, get_or, set, Some, None, Option, sym, refl, ap, ◌∙◌, inl, inr, arith}
 use Rattle.std.proofs.lemmas.List.{get_or-set_same, get_or-set_other}
-use Rattle.std.proofs.lemmas.Bool.{cond_both}
+use Rattle.std.proofs.lemmas.Bool.{cond_both, leb-false}
 use Rattle.std.proofs.lemmas.Bool.Decides.{eqb_tells, nat_tests}
 use Rattle.protocol.specs.declared.command.Command.{Command}
 use Rattle.protocol.specs.declared.command.Command.TheVariants.{R, W, DW, RI, RP, RB, LR, UW, U}
@@ -112,7 +112,8 @@ module _ (m : Measures) (ps : List Processor) (lines : List Line) (locks : List 
   abbrev listed : List Processor → ℕ → Option ℕ
   listed xs r = cond (ltb r m.processors) (wait_at xs r) None
 
-  wakes_listed : (b : Bool) (block r : ℕ) → cond (ltb r m.processors) (cond b (wake block (wait_at ps r)) (wait_at ps r)) None ≡ cond b (wake block (listed ps r)) (listed ps r)
+  wakes_listed : (b : Bool) (block r : ℕ)
+      → cond (ltb r m.processors) (cond b (wake block (wait_at ps r)) (wait_at ps r)) None ≡ cond b (wake block (listed ps r)) (listed ps r)
   wakes_listed b block r = by_bools b (ltb r m.processors) (wait_at ps r)
     where
       by_bools : (b k : Bool) (w : Option ℕ) → cond k (cond b (wake block w) w) None ≡ cond b (wake block (cond k w None)) (cond k w None)
@@ -140,15 +141,12 @@ module _ (m : Measures) (ps : List Processor) (lines : List Line) (locks : List 
       → awaited_in m (waiting m ps lines locks mem c holder).processors r ≡ cond (eqb r q.processor) (Some (q.address / 4)) (l.waits r)
   by_wait c effect holder is known r =
       let p = q.processor in
-      let low : p < m.processors = grind (arith, nat_tests) in
+      let low : p < m.processors = leb-false m.processors p known in
       ap (λ x. awaited_in m (waiting m ps lines locks mem x holder).processors r) is
       ∙ ap (λ w. cond (ltb r m.processors) w None) (at_set ps p r (waiting_for (get_or ps p resting) (q.address / 4)) (omega (arith, low, few, eight)))
-      ∙ by_same r (elim_eq r)
+      ∙ by_same r (eqb_tells r p)
       ∙ ap (λ w. cond (eqb r p) (Some (q.address / 4)) w) (agree r)
     where
-      elim_eq : (r : ℕ) → ((eqb r q.processor ≡ true) × (r ≡ q.processor)) ⊎ ((eqb r q.processor ≡ false) × (r ≡ q.processor → ⊥))
-      elim_eq r = eqb_tells r q.processor
-
       by_same : (r : ℕ) → ((eqb r q.processor ≡ true) × (r ≡ q.processor)) ⊎ ((eqb r q.processor ≡ false) × (r ≡ q.processor → ⊥))
           → cond (ltb r m.processors) (cond (eqb r q.processor) (Some (q.address / 4)) (wait_at ps r)) None
           ≡ cond (eqb r q.processor) (Some (q.address / 4)) (awaited_in m ps r)

@@ -1,6 +1,6 @@
 -- What the state table's cells leave, by one test over the whole table for hits and one for misses.
 use Rattle.std.proofs.Common.{◌≡◌, ℕ, ◌%◌, Bool, true, false, cond, not, ◌&&◌, ◌||◌, ◌⊎◌, eqb, List, Some, None, Option, sym, refl, ap, ◌∙◌, inl, inr, arith}
-use Rattle.std.proofs.lemmas.Bool.{and_parts, or_cases}
+use Rattle.std.proofs.lemmas.Bool.{true≢false, false≢true, and_parts, or_cases, not-true, cond_both}
 use Rattle.std.proofs.lemmas.Bool.Decides.{nat_tests}
 use Rattle.protocol.specs.declared.command.Action.{Action}
 use Rattle.protocol.specs.declared.command.Action.TheVariants.{R, W, DW, RI, RP, LR, UW, U}
@@ -18,7 +18,7 @@ use Rattle.cluster.specs.Doing.{asks_for_block, is_unlock}
 use Rattle.cluster.specs.Refusing.{is_direct_write}
 use Rattle.cluster.specs.Settling.{takes_lock}
 use Rattle.law.specs.Law.{exclusive, reads}
-use Rattle.law.proofs.Moving.{clears}
+use Rattle.law.proofs.Hearing.{clears}
 use Rattle.law.proofs.Words.{purging, fresh}
 
 abbrev every_state : (State → Bool) → Bool
@@ -92,10 +92,6 @@ is_taking None h = absurd (cc)
 is_taking (Some F) h = absurd (cc)
 is_taking (Some FI) h = refl
 is_taking (Some bus_i) h = absurd (cc)
-
-is_not : (b : Bool) → not b ≡ true → b ≡ false
-is_not true h = absurd (cc)
-is_not false h = refl
 
 -- the action writes a word of its block
 abbrev pub writes : Action → Bool
@@ -246,11 +242,12 @@ module _ (a : Action) (e : Effect) where
   pub hit : (f : State) → valid f ≡ true → cell_of a f ≡ Some e → HitCell f
   hit f v is =
       let kinds = hit_keeps a f e || hit_owns a f e || hit_empties a f e in
-      let all = at_cell (hit_leaves a f) (cell_of a f) e (or_not (valid f) (tested (hit_leaves a f) (cell_of a f)) (at_state (hit_test a) (at_action (λ x. every_state (hit_test x)) hits_pass a) f) v) is in
+      let tests = at_state (hit_test a) (at_action (λ x. every_state (hit_test x)) hits_pass a) f in
+      let all = at_cell (hit_leaves a f) (cell_of a f) e (or_not (valid f) (tested (hit_leaves a f) (cell_of a f)) tests v) is in
       let part = and_parts (not (asks_for_block e.bus) && locks_alone a f e) kinds all in
       let first = and_parts (not (asks_for_block e.bus)) (locks_alone a f e) part.0 in
       record {
-        unasked = is_not (asks_for_block e.bus) first.0;
+        unasked = not-true (asks_for_block e.bus) first.0;
         locked_alone = or_not (takes_lock_as a) (sole f e) first.1;
         kind = elim (or_cases (hit_keeps a f e || hit_owns a f e) (hit_empties a f e) part.1) [
           | inl two ↦ elim (or_cases (hit_keeps a f e) (hit_owns a f e) two) [
@@ -258,11 +255,11 @@ module _ (a : Action) (e : Effect) where
                 let p = and_parts (quiet e.bus && same f e.from_memory && not (writes a)) (not (drops a)) t in
                 let r = and_parts (quiet e.bus && same f e.from_memory) (not (writes a)) p.0 in
                 let s = and_parts (quiet e.bus) (same f e.from_memory) r.0 in
-                keeps (is_quiet e.bus s.0) (is_same f e.from_memory s.1) (is_not (writes a) r.1) (is_not (drops a) p.1)
+                keeps (is_quiet e.bus s.0) (is_same f e.from_memory s.1) (not-true (writes a) r.1) (not-true (drops a) p.1)
             | inr t ↦
                 let p = and_parts (sole f e && same EM e.from_memory) (not (drops a)) t in
                 let r = and_parts (sole f e) (same EM e.from_memory) p.0 in
-                owns r.0 (is_same EM e.from_memory r.1) (is_not (drops a) p.1)
+                owns r.0 (is_same EM e.from_memory r.1) (not-true (drops a) p.1)
           ]
           | inr t ↦
               let p = and_parts (sole f e && same I e.from_memory) (drops a) t in
@@ -293,15 +290,15 @@ module _ (a : Action) (e : Effect) where
                   let q = and_parts (fetching e.bus && same S e.from_cache && same EC e.from_memory) (not (writes a)) p.0 in
                   let r = and_parts (fetching e.bus && same S e.from_cache) (same EC e.from_memory) q.0 in
                   let s = and_parts (fetching e.bus) (same S e.from_cache) r.0 in
-                  reads_shared (is_fetching e.bus s.0) (is_same S e.from_cache s.1) (is_same EC e.from_memory r.1) (is_not (writes a) q.1) (is_not (drops a) p.1)
+                  reads_shared (is_fetching e.bus s.0) (is_same S e.from_cache s.1) (is_same EC e.from_memory r.1) (not-true (writes a) q.1) (not-true (drops a) p.1)
               | inr t ↦
                   let p = and_parts (taking e.bus && same EM e.from_cache && (same EM e.from_memory || (same EC e.from_memory && not (writes a)))) (not (drops a)) t in
                   let q = and_parts (taking e.bus && same EM e.from_cache) (same EM e.from_memory || (same EC e.from_memory && not (writes a))) p.0 in
                   let r = and_parts (taking e.bus) (same EM e.from_cache) q.0 in
                   takes (is_taking e.bus r.0) (is_same EM e.from_cache r.1) (elim (or_cases (same EM e.from_memory) (same EC e.from_memory && not (writes a)) q.1) [
                     | inl em ↦ inl (is_same EM e.from_memory em)
-                    | inr ec ↦ let w = and_parts (same EC e.from_memory) (not (writes a)) ec in inr (is_same EC e.from_memory w.0, is_not (writes a) w.1)
-                  ]) (is_not (drops a) p.1)
+                    | inr ec ↦ let w = and_parts (same EC e.from_memory) (not (writes a)) ec in inr (is_same EC e.from_memory w.0, not-true (writes a) w.1)
+                  ]) (not-true (drops a) p.1)
             ]
             | inr t ↦
                 let p = and_parts (taking e.bus && same I e.from_cache && same I e.from_memory) (drops a) t in
@@ -313,7 +310,7 @@ module _ (a : Action) (e : Effect) where
               let p = and_parts (quiet e.bus && is_direct_write a && same EM e.from_memory) (not (drops a)) t in
               let q = and_parts (quiet e.bus && is_direct_write a) (same EM e.from_memory) p.0 in
               let r = and_parts (quiet e.bus) (is_direct_write a) q.0 in
-              makes (is_quiet e.bus r.0) r.1 (is_same EM e.from_memory q.1) (is_not (drops a) p.1)
+              makes (is_quiet e.bus r.0) r.1 (is_same EM e.from_memory q.1) (not-true (drops a) p.1)
         ];
       }
 
@@ -322,14 +319,17 @@ module _ (address : ℕ) (found : State) (elsewhere : Bool) where
   abbrev acting : Command → Action
   acting c = acts_as c address found elsewhere
 
+  -- DW acts as DW or W, and RB as RP, RI or R
+  dw_acts : (word : ℕ) (P : Action → Type 0) → P DW → P W → P (acting (command.DW word))
+  dw_acts word P dw w = cond_both (eqb (address % 4) 0) DW W P (λ e. dw) (λ e. w)
+
+  rb_acts : (P : Action → Type 0) → P RP → P RI → P R → P (acting command.RB)
+  rb_acts P rp ri r = cond_both (eqb (address % 4) 3) RP _ P (λ e. rp) (λ e. cond_both (not (valid found) && elsewhere) RI R P (λ e. ri) (λ e. r))
+
   pub acts_drops : (c : Command) → drops (acting c) ≡ purging c address
   acts_drops command.R = refl
   acts_drops (command.W word) = refl
-  acts_drops (command.DW word) = by_start (eqb (address % 4) 0)
-    where
-      by_start : (b : Bool) → drops (cond b DW W) ≡ false
-      by_start true = refl
-      by_start false = refl
+  acts_drops (command.DW word) = dw_acts word (λ a. drops a ≡ false) refl refl
   acts_drops command.RI = refl
   acts_drops command.RP = refl
   acts_drops command.RB = by_last (eqb (address % 4) 3) (not (valid found) && elsewhere)
@@ -345,11 +345,7 @@ module _ (address : ℕ) (found : State) (elsewhere : Bool) where
   pub acts_writes : (c : Command) (ws : List ℕ) → writes (acting c) ≡ false → words_left c address ws ≡ ws
   acts_writes command.R ws h = refl
   acts_writes (command.W word) ws h = absurd (cc)
-  acts_writes (command.DW word) ws h = by_start (eqb (address % 4) 0) h
-    where
-      by_start : (b : Bool) → writes (cond b DW W) ≡ false → words_left (command.DW word) address ws ≡ ws
-      by_start true e = absurd (cc)
-      by_start false e = absurd (cc)
+  acts_writes (command.DW word) ws h = absurd (dw_acts word (λ a. writes a ≡ false → ⊥) true≢false true≢false h)
   acts_writes command.RI ws h = refl
   acts_writes command.RP ws h = refl
   acts_writes command.RB ws h = refl
@@ -367,12 +363,7 @@ module _ (address : ℕ) (found : State) (elsewhere : Bool) where
       by_start false = refl
   acts_fresh command.RI = refl
   acts_fresh command.RP = refl
-  acts_fresh command.RB = by_last (eqb (address % 4) 3) (not (valid found) && elsewhere)
-    where
-      by_last : (b d : Bool) → is_direct_write (cond b RP (cond d RI R)) ≡ false
-      by_last true d = refl
-      by_last false true = refl
-      by_last false false = refl
+  acts_fresh command.RB = rb_acts (λ a. is_direct_write a ≡ false) refl refl refl
   acts_fresh command.LR = refl
   acts_fresh (command.UW word) = refl
   acts_fresh command.U = refl
@@ -394,12 +385,7 @@ module _ (address : ℕ) (found : State) (elsewhere : Bool) where
   acts_reads (command.DW word) h = absurd (cc)
   acts_reads command.RI h = (refl, refl)
   acts_reads command.RP h = (refl, refl)
-  acts_reads command.RB h = (by_last (eqb (address % 4) 3) (not (valid found) && elsewhere), refl)
-    where
-      by_last : (b d : Bool) → is_unlock (cond b RP (cond d RI R)) ≡ false
-      by_last true d = refl
-      by_last false true = refl
-      by_last false false = refl
+  acts_reads command.RB h = (rb_acts (λ a. is_unlock a ≡ false) refl refl refl, refl)
   acts_reads command.LR h = (refl, refl)
   acts_reads (command.UW word) h = absurd (cc)
   acts_reads command.U h = absurd (cc)
@@ -407,19 +393,10 @@ module _ (address : ℕ) (found : State) (elsewhere : Bool) where
   pub acts_unlock : (c : Command) → is_unlock (acting c) ≡ true → c ≡ command.U
   acts_unlock command.R h = absurd (cc)
   acts_unlock (command.W word) h = absurd (cc)
-  acts_unlock (command.DW word) h = by_start (eqb (address % 4) 0) h
-    where
-      by_start : (b : Bool) → is_unlock (cond b DW W) ≡ true → command.DW word ≡ command.U
-      by_start true e = absurd (cc)
-      by_start false e = absurd (cc)
+  acts_unlock (command.DW word) h = absurd (dw_acts word (λ a. is_unlock a ≡ true → ⊥) false≢true false≢true h)
   acts_unlock command.RI h = absurd (cc)
   acts_unlock command.RP h = absurd (cc)
-  acts_unlock command.RB h = by_last (eqb (address % 4) 3) (not (valid found) && elsewhere) h
-    where
-      by_last : (b d : Bool) → is_unlock (cond b RP (cond d RI R)) ≡ true → command.RB ≡ command.U
-      by_last true d e = absurd (cc)
-      by_last false true e = absurd (cc)
-      by_last false false e = absurd (cc)
+  acts_unlock command.RB h = absurd (rb_acts (λ a. is_unlock a ≡ true → ⊥) false≢true false≢true false≢true h)
   acts_unlock command.LR h = absurd (cc)
   acts_unlock (command.UW word) h = absurd (cc)
   acts_unlock command.U h = refl

@@ -1,6 +1,6 @@
 -- What a drain keeps, and that memory then has the words of each block.
 use Rattle.std.proofs.Common.{◌≡◌, ℕ, zero, suc, ◌+◌, ◌-◌, ◌<◌, ◌≤◌, ◌%◌, Bool, true, false, cond, ◌&&◌, eqb, ltb, ◌⊎◌, List, [], ◌∷◌, length, get_or, IfSome, Some, None, Ok, Err, Option, Result, sym, refl, ap, subst, ◌∙◌, inl, inr, arith}
-use Rattle.std.proofs.lemmas.Bool.{false≢true, and_parts, cond_both}
+use Rattle.std.proofs.lemmas.Bool.{false≢true}
 use Rattle.std.proofs.lemmas.Bool.Decides.{eqb_tells, leb_tells, nat_tests}
 use Rattle.protocol.specs.declared.line.Line.{Line}
 use Rattle.protocol.specs.declared.measures.Measures.{Measures}
@@ -14,8 +14,9 @@ use Rattle.upkeep.specs.declared.drain.Drained.{Drained}
 use Rattle.upkeep.specs.Counting.{lines_fit}
 use Rattle.upkeep.specs.Draining.{Drain, DrainOutcome, behind, written_back, memory_back, unless_stopped, drain_from, costed, drain_rule}
 use Rattle.law.specs.Ledger.{Ledger, block_of, word_at}
+use Rattle.law.proofs.Copied.{copy_valid, words_four}
 use Rattle.law.proofs.Invariant.{at_in, Coherent, Homed, Tied, HolderAlone}
-use Rattle.law.proofs.Replacing.{Fewer, copy_valid, homed_fewer, holder_fewer, without, given_back, replaced, granted_write, modified_valid, own_copy}
+use Rattle.law.proofs.Replacing.{Fewer, homed_fewer, holder_fewer, without, without_elsewhere, given_back, given_four, replaced, granted_write}
 
 abbrev is_finished : {X : Type 0} → Result X Refusal → Bool
 is_finished (Ok x) = true
@@ -55,7 +56,7 @@ step blocks line lines mem = by_both (modified line.state) (grants mem line.bloc
         stopped (Memory line.block Write)
         (on_answer (Err (Memory line.block Write)) (λ i. cond (e i) (cond (f i) (Ok 1) (Err (Memory line.block Write))) (Ok 0)))
 
-pub drained_length : (blocks : ℕ) (lines : List Line) (mem : Mem) → length (drain_from blocks lines mem).lines ≡ length lines
+drained_length : (blocks : ℕ) (lines : List Line) (mem : Mem) → length (drain_from blocks lines mem).lines ≡ length lines
 drained_length blocks [] mem = refl
 drained_length blocks (line ∷ lines) mem = by_step (step blocks line lines mem) (λ n. drained_length (blocks + n) lines (memory_back mem line))
   where
@@ -65,7 +66,7 @@ drained_length blocks (line ∷ lines) mem = by_step (step blocks line lines mem
     by_step (went n words is) rest = ap (λ d. length d.lines) is ∙ ap suc (rest n)
 
 -- a drain leaves blank lines and lines as they were
-pub drained_fewer : (blocks : ℕ) (lines : List Line) (mem : Mem) → Fewer (at_in lines) (at_in (drain_from blocks lines mem).lines)
+drained_fewer : (blocks : ℕ) (lines : List Line) (mem : Mem) → Fewer (at_in lines) (at_in (drain_from blocks lines mem).lines)
 drained_fewer blocks [] mem = λ i h. refl
 drained_fewer blocks (line ∷ lines) mem = by_step (step blocks line lines mem) (λ n. drained_fewer (blocks + n) lines (memory_back mem line))
   where
@@ -139,7 +140,7 @@ blank_at j lines = sym (passed_blank j blank_line lines) ∙ (λ i k. at_place k
       | inl here ↦
           ap (λ b. cond b blank_line (from_place j (blank_line ∷ lines) k)) here.0
           ∙ sym (ap (from_place j (blank_line ∷ lines)) here.1 ∙ at_first j blank_line lines)
-      | inr other ↦ ap (λ b. cond b blank_line (from_place j (blank_line ∷ lines) k)) other.0
+      | inr other ↦ without_elsewhere (from_place j (blank_line ∷ lines)) j k other.1
     ]
 
 from_start : (lines : List Line) → from_place 0 lines ≡ at_in lines
@@ -182,24 +183,18 @@ module _ (truth : ℕ → List ℕ) where
     abbrev drain : Drain
     drain = drain_from blocks lines mem
 
-    pub drained_coherent : Coherent (at_in lines) mem.words truth → Coherent (at_in drain.lines) drain.memory.words truth
+    drained_coherent : Coherent (at_in lines) mem.words truth → Coherent (at_in drain.lines) drain.memory.words truth
     drained_coherent c =
         subst (λ at. Coherent at drain.memory.words truth) (from_start drain.lines)
         (coherent_from blocks lines mem 0 (subst (λ at. Coherent at mem.words truth) (sym (from_start lines)) c))
 
-    pub drained_memory : Coherent (at_in lines) mem.words truth → (n : ℕ) → drain.answer ≡ Ok n → (block : ℕ) → drain.memory.words block ≡ truth block
+    drained_memory : Coherent (at_in lines) mem.words truth → (n : ℕ) → drain.answer ≡ Ok n → (block : ℕ) → drain.memory.words block ≡ truth block
     drained_memory c n h block = (drained_coherent c).clean block
-        (λ i held. absurd (false≢true (sym (drained_blank blocks lines mem n h i) ∙ copy_valid (at_in drain.lines) block i held)))
+        (λ i held. absurd (false≢true (sym (drained_blank blocks lines mem n h i) ∙ copy_valid block (at_in drain.lines i) held)))
 
 -- each valid line has four words
 FourEach : List Line → Type 0
 FourEach lines = (i : ℕ) → valid (at_in lines i).state ≡ true → length (at_in lines i).words ≡ 4
-
-back_four : (line : Line) (words : ℕ → List ℕ) → (valid line.state ≡ true → length line.words ≡ 4) → ((b : ℕ) → length (words b) ≡ 4)
-    → (b : ℕ) → length (given_back (λ k. line) 0 words b) ≡ 4
-back_four line words has all b =
-    cond_both (modified line.state && eqb b line.block) line.words (words b) (λ (x : List ℕ). length x ≡ 4)
-    (λ h. has (modified_valid line.state (and_parts _ _ h).0)) (λ h. all b)
 
 drained_four : (blocks : ℕ) (lines : List Line) (mem : Mem) → FourEach lines → ((b : ℕ) → length (mem.words b) ≡ 4)
     → (b : ℕ) → length ((drain_from blocks lines mem).memory.words b) ≡ 4
@@ -209,18 +204,19 @@ drained_four blocks (line ∷ lines) mem each all =
     by_step (step blocks line lines mem) (λ n. drained_four (blocks + n) lines (memory_back mem line) (λ i. each (suc i)))
   where
     by_step : Step blocks line lines mem
-        → ((n : ℕ) → ((b : ℕ) → length ((memory_back mem line).words b) ≡ 4) → (b : ℕ) → length ((drain_from (blocks + n) lines (memory_back mem line)).memory.words b) ≡ 4)
+        → ((n : ℕ) → ((b : ℕ) → length ((memory_back mem line).words b) ≡ 4)
+        → (b : ℕ) → length ((drain_from (blocks + n) lines (memory_back mem line)).memory.words b) ≡ 4)
         → (b : ℕ) → length ((drain_from blocks (line ∷ lines) mem).memory.words b) ≡ 4
     by_step (stopped e is) rest = subst (λ d. (b : ℕ) → length (d.memory.words b) ≡ 4) (sym is) all
     by_step (went n words is) rest =
         subst (λ d. (b : ℕ) → length (d.memory.words b) ≡ 4) (sym is)
-        (rest n (subst (λ w. (b : ℕ) → length (w b) ≡ 4) (sym words) (back_four line mem.words (each zero) all)))
+        (rest n (subst (λ w. (b : ℕ) → length (w b) ≡ 4) (sym words) (given_four (λ k. line) 0 mem.words (each zero) all)))
 
 module _ (m : Measures) (blocks : ℕ) (lines : List Line) (mem : Mem) where
-  pub drained_homed : Homed m (at_in lines) → Homed m (at_in (drain_from blocks lines mem).lines)
+  drained_homed : Homed m (at_in lines) → Homed m (at_in (drain_from blocks lines mem).lines)
   drained_homed h = homed_fewer m (at_in lines) (at_in (drain_from blocks lines mem).lines) (drained_fewer blocks lines mem) h
 
-  pub drained_holder : (l : Ledger) → HolderAlone m (at_in lines) l → HolderAlone m (at_in (drain_from blocks lines mem).lines) l
+  drained_holder : (l : Ledger) → HolderAlone m (at_in lines) l → HolderAlone m (at_in (drain_from blocks lines mem).lines) l
   drained_holder l h = holder_fewer m (at_in lines) (at_in (drain_from blocks lines mem).lines) (drained_fewer blocks lines mem) l h
 
 module _ (m : Measures) (lines : List Line) (mem : Mem) where
@@ -264,10 +260,9 @@ module _ (m : Measures) (lines : List Line) (mem : Mem) where
   unfolding FourEach
   rule_four truth c four all =
       by_way (λ ls me. (b : ℕ) → length (me.words b) ≡ 4)
-      (drained_four 0 lines mem
-      (λ i v. ap length (c.agree (at_in lines i).block i (own_copy (at_in lines i) (at_in lines i).block v refl)) ∙ four (at_in lines i).block) all) all
+      (drained_four 0 lines mem (words_four (at_in lines) mem.words truth c four) all) all
 
-  pub rule_memory : (truth : ℕ → List ℕ) → Coherent (at_in lines) mem.words truth → (d : Drained) → (drain_rule m lines mem).answer ≡ Ok d
+  rule_memory : (truth : ℕ → List ℕ) → Coherent (at_in lines) mem.words truth → (d : Drained) → (drain_rule m lines mem).answer ≡ Ok d
       → (block : ℕ) → (drain_rule m lines mem).memory.words block ≡ truth block
   rule_memory truth c d h block = elim drain_way [
     | inl done ↦ ap (λ o. o.memory.words block) done ∙ finished (drain_from 0 lines mem).answer refl (ap (λ o. o.answer) (sym done) ∙ h)

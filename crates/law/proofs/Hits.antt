@@ -1,5 +1,5 @@
 -- A done command whose own cache has the block.
-use Rattle.std.proofs.Common.{◌≡◌, ℕ, ◌/◌, ◌<◌, Bool, true, false, cond, not, ◌&&◌, List, length, get_or, is_some, Some, None, Ok, Option, sym, refl, ap, ◌∙◌, inl, inr}
+use Rattle.std.proofs.Common.{◌≡◌, ℕ, ◌/◌, ◌<◌, Bool, true, false, cond, not, ◌&&◌, List, length, get_or, Some, None, Option, sym, refl, ap, ◌∙◌, inl, inr}
 use Rattle.std.proofs.lemmas.Bool.{or_cases}
 use Rattle.protocol.specs.declared.command.Action.{Action}
 use Rattle.protocol.specs.declared.command.BusCommand.{BusCommand}
@@ -14,29 +14,28 @@ use Rattle.protocol.specs.Lines.{in_state}
 use Rattle.protocol.specs.Places.{line_count}
 use Rattle.memory.specs.Meaning.{Mem}
 use Rattle.cluster.specs.declared.cluster.Processor.{Processor}
-use Rattle.cluster.specs.Cases.{own_place}
-use Rattle.cluster.specs.Copies.{line_of, line_at, supplier_of}
-use Rattle.cluster.specs.Doing.{is_unlock, supplied_by, state_left}
-use Rattle.cluster.specs.Finishing.{placed, bus_seen}
+use Rattle.cluster.specs.Copies.{line_of, line_at}
+use Rattle.cluster.specs.Doing.{is_unlock, state_left}
 use Rattle.cluster.specs.Making.{resting}
 use Rattle.cluster.specs.Rule.{Outcome}
 use Rattle.cluster.specs.Settling.{takes_lock}
 use Rattle.cluster.specs.Ways.{taken_way}
 use Rattle.law.specs.Law.{exclusive}
+use Rattle.law.proofs.Copied.{copy_valid, copy_block}
+use Rattle.law.proofs.Hearing.{in_valid_state}
 use Rattle.law.proofs.Invariant.{at_in, Coherent, Homed}
-use Rattle.law.proofs.Cells.{hit, HitCell, Hit, keeps, owns, empties, acts_drops, acts_writes, acts_fresh, acts_locks, sole, writes, drops, unwritten}
-use Rattle.law.proofs.Leaving.{own_line, Kind, left_em, left_i, kept}
-use Rattle.law.proofs.Moving.{Moved, copy_valid, copy_block, in_state_valid, valid_in_state}
+use Rattle.law.proofs.Cells.{hit, HitCell, Hit, keeps, owns, empties, sole}
+use Rattle.law.proofs.Leaving.{Kind, left_em, left_i, kept}
+use Rattle.law.proofs.Moving.{Moved}
 use Rattle.law.proofs.Owning.{Only, only_cleared, only_exclusive}
 use Rattle.law.proofs.Places.{FoundAt, found_at}
 use Rattle.law.proofs.Placing.{placed_at, hit_moved}
 use Rattle.law.proofs.Shapes.{found, action_of}
-use Rattle.law.proofs.Words.{purging, fresh}
-use Rattle.law.proofs.Doing.{taken_with, Done, ok_same}
+use Rattle.law.proofs.Doing.{taken_with, Done, made_state, made_line, made_named, unasked_supply, purging_is, same_words, stale_by, takes_locked}
 
-module _ (m : Measures) (some_columns : 0 < m.columns) (some_ways : 0 < m.ways) (ps : List Processor) (lines : List Line) (locks : List LockEntry) (mem : Mem)
-    (q : Request) (fit : length lines ≡ line_count m) (homed : Homed m (at_in lines)) (truth : ℕ → List ℕ) (coherent : Coherent (at_in lines) mem.words truth)
-    (o : Outcome) (d : Done m ps lines locks mem q o) where
+module _ {m : Measures} (some_columns : 0 < m.columns) {ps : List Processor} {lines : List Line} {locks : List LockEntry} {mem : Mem} {q : Request}
+    (fit : length lines ≡ line_count m) (homed : Homed m (at_in lines)) {truth : ℕ → List ℕ} (coherent : Coherent (at_in lines) mem.words truth)
+    {o : Outcome} (d : Done m ps lines locks mem q o) where
   abbrev pub block : ℕ
   block = q.address / 4
 
@@ -46,31 +45,19 @@ module _ (m : Measures) (some_columns : 0 < m.columns) (some_ways : 0 < m.ways) 
   abbrev pub acting : Action
   acting = action_of m ps lines locks mem q
 
-  abbrev pub elsewhere : Bool
-  elsewhere = is_some (supplier_of m lines q.processor block)
-
   abbrev pub left : State
-  left = state_left d.effect d.supply.from
+  left = made_state d
 
   abbrev pub own : Line
-  own = own_line q.command q.address d.supply.words left
-
-  pub own_named : valid own.state ≡ true → own.block ≡ block
-  own_named v =
-      ap (λ x. x.block)
-      (in_state_valid (record { state = left; block = block; words = words_left q.command q.address d.supply.words }) left
-      (valid_in_state (record { state = left; block = block; words = words_left q.command q.address d.supply.words }) left v))
-
-  abbrev pub after : List Line
-  after = placed (own_place (line_of m lines q.processor block) (taken_with m ps lines locks mem q d.effect)) own (bus_seen m bus q.processor block lines)
+  own = made_line d
 
   -- in the own cache
   module _ (k : ℕ) (e : line_of m lines q.processor block ≡ Some k) where
     abbrev pub hit_at : ℕ → Line
-    hit_at = placed_at m some_columns lines fit homed q.processor block d.known bus k own own_named
+    hit_at = placed_at m some_columns lines fit homed q.processor block d.known bus k own (made_named d)
 
     pub moved : Moved m (at_in lines) hit_at block k q.processor bus own
-    moved = hit_moved m some_columns lines fit homed q.processor block d.known bus k own own_named e
+    moved = hit_moved m some_columns lines fit homed q.processor block d.known bus k own (made_named d) e
 
     at_place : FoundAt m lines q.processor block k
     at_place = found_at m some_columns lines fit homed q.processor block k d.known e
@@ -85,14 +72,9 @@ module _ (m : Measures) (some_columns : 0 < m.columns) (some_ways : 0 < m.ways) 
     cell = hit acting d.effect (found m ps lines locks mem q) found_valid d.cell
 
     supply_is : d.supply ≡ record { words = (at_in lines k).words; from = None }
-    supply_is =
-        ok_same d.supply (record { words = (at_in lines k).words; from = None })
-        (sym d.given
-        ∙ ap (λ b. cond b (supplied_by m lines mem block (supplier_of m lines q.processor block))
-        (Ok (record { words = (line_at lines (line_of m lines q.processor block)).words; from = None }))) cell.unasked
-        ∙ ap (λ p. Ok (record { words = (line_at lines p).words; from = None })) e)
+    supply_is = unasked_supply d cell.unasked ∙ ap (λ p. record { words = (line_at lines p).words; from = None }) e
 
-    pub hit_left : left ≡ d.effect.from_memory
+    hit_left : left ≡ d.effect.from_memory
     hit_left = ap (λ s. state_left d.effect s.from) supply_is
 
     pub hit_words : d.supply.words ≡ truth block
@@ -107,45 +89,36 @@ module _ (m : Measures) (some_columns : 0 < m.columns) (some_ways : 0 < m.ways) 
         by_found false true h = refl
         by_found false false h = absurd (cc)
 
-    sole_only : sole (found m ps lines locks mem q) d.effect ≡ true → Only m (at_in lines) hit_at block k q.processor bus own moved
+    sole_only : sole (found m ps lines locks mem q) d.effect ≡ true → Only moved
     sole_only h = elim (or_cases _ _ h) [
       | inl x ↦
-          only_exclusive m (at_in lines) hit_at block k q.processor bus own moved mem.words truth coherent at_place.copied
+          only_exclusive moved coherent at_place.copied
           (ap exclusive (sym found_is) ∙ x)
-      | inr c ↦ only_cleared m (at_in lines) hit_at block k q.processor bus own moved c
+      | inr c ↦ only_cleared moved c
     ]
 
-    pub hit_lock_only : takes_lock q.command ≡ true → Only m (at_in lines) hit_at block k q.processor bus own moved
-    hit_lock_only h = sole_only (cell.locked_alone (acts_locks q.address (found m ps lines locks mem q) elsewhere q.command h))
+    pub hit_lock_only : takes_lock q.command ≡ true → Only moved
+    hit_lock_only h = sole_only (cell.locked_alone (takes_locked d h))
 
-    same_words : writes acting ≡ false → words_left q.command q.address d.supply.words ≡ d.supply.words
-    same_words = acts_writes q.address (found m ps lines locks mem q) elsewhere q.command d.supply.words
-
-    purging_is : (b : Bool) → drops acting ≡ b → purging q.command q.address ≡ b
-    purging_is b h = sym (acts_drops q.address (found m ps lines locks mem q) elsewhere q.command) ∙ h
-
-    stale_by : writes acting ≡ false → fresh q.command q.address ≡ false
-    stale_by w = sym (acts_fresh q.address (found m ps lines locks mem q) elsewhere q.command) ∙ unwritten acting w
-
-    pub hit_kind : Kind m (at_in lines) hit_at k q.processor bus q.command q.address d.supply.words left moved mem.words truth coherent
+    pub hit_kind : Kind q.command q.address d.supply.words left moved coherent
     hit_kind = by_hit cell.kind
       where
         by_hit : Hit acting (found m ps lines locks mem q) d.effect
-            → Kind m (at_in lines) hit_at k q.processor bus q.command q.address d.supply.words left moved mem.words truth coherent
-        by_hit (keeps quiet same w dr) = kept quiet stays (same_words w) (purging_is false dr) (stale_by w)
+            → Kind q.command q.address d.supply.words left moved coherent
+        by_hit (keeps quiet same w dr) = kept quiet stays (same_words d w) (purging_is d false dr) (stale_by d w)
           where
             left_found : left ≡ (at_in lines k).state
             left_found = hit_left ∙ same ∙ found_is
 
-            named : block ≡ (at_in lines k).block
-            named = sym (copy_block block (at_in lines k) at_place.copied)
+            same_block : block ≡ (at_in lines k).block
+            same_block = sym (copy_block block (at_in lines k) at_place.copied)
 
             kept_words : words_left q.command q.address d.supply.words ≡ (at_in lines k).words
-            kept_words = same_words w ∙ ap (λ s. s.words) supply_is
+            kept_words = same_words d w ∙ ap (λ s. s.words) supply_is
 
             stays : own ≡ at_in lines k
             stays =
-                (λ i. in_state (record { state = left_found i; block = named i; words = kept_words i }) (left_found i))
-                ∙ in_state_valid (at_in lines k) (at_in lines k).state (copy_valid block (at_in lines k) at_place.copied)
-        by_hit (owns s em dr) = left_em (sole_only s) (hit_left ∙ em) (purging_is false dr)
-        by_hit (empties s i dr) = left_i (sole_only s) (hit_left ∙ i) (purging_is true dr)
+                (λ i. in_state (record { state = left_found i; block = same_block i; words = kept_words i }) (left_found i))
+                ∙ in_valid_state (at_in lines k) (at_in lines k).state (copy_valid block (at_in lines k) at_place.copied)
+        by_hit (owns s em dr) = left_em (sole_only s) (hit_left ∙ em) (purging_is d false dr)
+        by_hit (empties s i dr) = left_i (sole_only s) (hit_left ∙ i) (purging_is d true dr)

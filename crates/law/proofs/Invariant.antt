@@ -1,5 +1,5 @@
 -- What is kept from call to call: of the lines by their places, of locks, of words.
-use Rattle.std.proofs.Common.{◌≡◌, ℕ, ◌+◌, ◌%◌, ◌<◌, ◌≤◌, true, false, List, length, get_or, Some}
+use Rattle.std.proofs.Common.{◌≡◌, ℕ, ◌+◌, ◌%◌, ◌<◌, ◌≤◌, true, false, List, [], ◌∷◌, length, get_or, Some}
 use Rattle.protocol.specs.declared.line.Line.{Line}
 use Rattle.protocol.specs.declared.lock.LockEntry.{LockEntry}
 use Rattle.protocol.specs.declared.measures.Measures.{Measures}
@@ -9,8 +9,10 @@ use Rattle.protocol.specs.Places.{window_start}
 use Rattle.cluster.specs.Copies.{holds_block}
 use Rattle.cluster.specs.Locks.{somebody_waits}
 use Rattle.cluster.specs.Making.{blank_entry}
+use Rattle.law.specs.Accounts.{Throughout}
+use Rattle.law.specs.Calls.{Call, Board, said_by, left_by}
 use Rattle.law.specs.Law.{exclusive, owner}
-use Rattle.law.specs.Ledger.{Ledger, block_of}
+use Rattle.law.specs.Ledger.{Ledger, block_of, fed}
 
 -- the line at each place, one that is I past the end
 abbrev pub at_in : List Line → ℕ → Line
@@ -59,3 +61,10 @@ pub record Marked (locks : List LockEntry) (block : ℕ) : Type 0 where
 
 abbrev pub AllMarked : List LockEntry → Ledger → Type 0
 AllMarked locks l = (r block : ℕ) → l.waits r ≡ Some block → Marked locks block
+
+-- what is kept from call to call holds throughout, and what follows from it
+module _ (m : Measures) (P Keep : Board → Ledger → Type 0) (then : (b : Board) (l : Ledger) → Keep b l → P b l)
+    (next : (b : Board) (l : Ledger) → Keep b l → (call : Call) → Keep (left_by m b call) (fed call (said_by m b call) l)) where
+  pub throughout : (b : Board) (l : Ledger) → Keep b l → (calls : List Call) → Throughout P m b l calls
+  throughout b l h [] = then b l h
+  throughout b l h (call ∷ calls) = (then b l h, throughout (left_by m b call) (fed call (said_by m b call) l) (next b l h call) calls)

@@ -1,31 +1,32 @@
 -- The law holds throughout every list of calls.
-use Rattle.std.proofs.Common.{◌≡◌, ℕ, zero, suc, ◌/◌, ◌%◌, ◌<◌, ◌≤◌, Bool, true, false, cond, List, [], ◌∷◌, get_or, replicate, IfSome, Some, None, Option, sym, refl, ◌∙◌, subst}
+use Rattle.std.proofs.Common.{◌≡◌, ℕ, ◌/◌, ◌%◌, ◌<◌, ◌≤◌, Bool, true, false, cond, get_or, replicate, IfSome, Some, None, Option, sym, refl, ◌∙◌, subst}
 use lib.ListN.{length-replicate}
 use Rattle.std.proofs.lemmas.Bool.{false≢true}
 use Rattle.protocol.specs.declared.command.Request.{Request}
 use Rattle.protocol.specs.declared.measures.Measures.{Measures}
 use Rattle.protocol.specs.Entries.{valid}
-use Rattle.protocol.specs.Lines.{blank_line}
+use Rattle.protocol.specs.Lines.{blank_line, no_line}
 use Rattle.protocol.specs.Places.{line_count}
 use Rattle.memory.specs.Meaning.{Mem, Lawful}
 use Rattle.cluster.specs.Copies.{line_of, line_at}
 use Rattle.cluster.specs.Rule.{Outcome, waiting}
 use Rattle.upkeep.proofs.Counts.{has_columns}
-use Rattle.law.specs.Accounts.{Throughout, new_board}
+use Rattle.law.specs.Accounts.{new_board}
 use Rattle.law.specs.Calls.{Call, command, drain, census, question, Board, command_on, said_by, left_by}
 use Rattle.law.specs.Law.{Law, LawHolds, OnDone, owner, reads}
 use Rattle.law.specs.Ledger.{Ledger, opened, fed, command_fed, word_at, block_of}
 use Rattle.law.proofs.Commands.{Settled, settled_done, reads_done}
+use Rattle.law.proofs.Copied.{copy_valid}
 use Rattle.law.proofs.Doing.{done}
 use Rattle.law.proofs.Drained.{rule_length, rule_homed, rule_coherent, rule_holder, rule_four, drains_law}
-use Rattle.law.proofs.Invariant.{at_in, copy}
-use Rattle.law.proofs.LocksKept.{no_other_holder}
-use Rattle.law.proofs.LocksOn.{OwnFound, LocksHold, locks_on, waits_on_locks, new_locks_hold}
+use Rattle.law.proofs.Invariant.{at_in, copy, throughout}
+use Rattle.law.proofs.LocksKept.{OwnFound, no_other_holder}
+use Rattle.law.proofs.LocksOn.{LocksHold, locks_on, waits_on_locks, new_locks_hold}
 use Rattle.law.proofs.Marked.{wakes_law}
-use Rattle.law.proofs.Moving.{copy_valid}
 use Rattle.law.proofs.Places.{found_at}
 use Rattle.law.proofs.Shapes.{Shape, refused, waited, finished, shape}
 use Rattle.law.proofs.Told.{accounts}
+use Rattle.law.proofs.Windows.{seen-replicate}
 use Rattle.law.proofs.Words.{tied_same}
 
 record Whole (m : Measures) (b : Board) (l : Ledger) : Type 0 where
@@ -62,7 +63,7 @@ module _ (m : Measures) (some_columns : 0 < m.columns) (some_ways : 0 < m.ways) 
         subst (λ x. Settled m x.lines x.memory.words (command_fed q x.answer l)) (sym v.is)
         (kept_words (command_fed q (waiting m b.processors b.lines b.locks b.memory v.case v.blocker).answer l) (λ x. refl) (λ p a. refl))
     settled_command q o (finished f) =
-        settled_done m some_columns some_ways b.processors b.lines b.locks b.memory q l w.settled o (done m b.processors b.lines b.locks b.memory q o f)
+        settled_done some_columns some_ways w.settled (done f)
         (no_other_holder m b l w.locks.kept w.locks.one w.settled.holder w.locks.listed own_found q o f)
 
     reads_command : (q : Request) → reads q.command ≡ true → (o : Outcome) → Shape m b.processors b.lines b.locks b.memory q o
@@ -70,7 +71,7 @@ module _ (m : Measures) (some_columns : 0 < m.columns) (some_ways : 0 < m.ways) 
     reads_command q r o (refused e is) = subst (λ x. OnDone x.answer (λ done. IfSome (l.words q.address) (λ word. done.word ≡ word))) (sym is) tt
     reads_command q r o (waited v) = subst (λ x. OnDone x.answer (λ done. IfSome (l.words q.address) (λ word. done.word ≡ word))) (sym v.is) tt
     reads_command q r o (finished f) =
-        reads_done m some_columns some_ways b.processors b.lines b.locks b.memory q l w.settled o (done m b.processors b.lines b.locks b.memory q o f)
+        reads_done some_columns some_ways w.settled (done f)
         (no_other_holder m b l w.locks.kept w.locks.one w.settled.holder w.locks.listed own_found q o f) r
 
     settled_drain : Settled m (left_by m b drain).lines (left_by m b drain).memory.words l
@@ -112,15 +113,9 @@ module _ (m : Measures) (some_columns : 0 < m.columns) (some_ways : 0 < m.ways) 
           release_wakes = λ q. wakes_law m b l w.locks.marked q few w.locks.kept;
         }
 
-  throughout : (b : Board) (l : Ledger) → Whole m b l → (calls : List Call) → Throughout (Law m) m b l calls
-  throughout b l w [] = law b l w
-  throughout b l w (call ∷ calls) = (law b l w, throughout (left_by m b call) (fed call (said_by m b call) l) (next b l w call) calls)
-
 -- a new cluster
 blank_at : (n i : ℕ) → valid (at_in (replicate n blank_line) i).state ≡ false
-blank_at zero i = refl
-blank_at (suc n) zero = refl
-blank_at (suc n) (suc i) = blank_at n i
+blank_at n i = seen-replicate (λ line. valid line.state) n i blank_line no_line refl
 
 no_copy : (n block i : ℕ) → copy (at_in (replicate n blank_line)) block i → ⊥
 no_copy n block i c = false≢true (sym (blank_at n i) ∙ copy_valid block (at_in (replicate n blank_line) i) c)
@@ -155,6 +150,7 @@ module _ (m : Measures) (mem : Mem) (lawful : Lawful mem) where
   }
 
 pub law_holds : LawHolds
-law_holds g mem lawful calls =
-    throughout g.measures (has_columns g) g.some_ways g.few_processors (new_board g.measures mem) (opened mem)
-    (record { settled = new_settled g.measures mem lawful; locks = new_locks_hold g.measures mem }) calls
+law_holds g mem lawful =
+    let m = g.measures in
+    throughout m (Law m) (Whole m) (law m (has_columns g) g.some_ways g.few_processors) (next m (has_columns g) g.some_ways g.few_processors)
+    (new_board m mem) (opened mem) (record { settled = new_settled m mem lawful; locks = new_locks_hold m mem })

@@ -1,4 +1,6 @@
 pub mod Invariant
+pub mod Copied
+pub mod Hearing
 pub mod Words
 pub mod Moving
 pub mod Cells
@@ -9,7 +11,9 @@ pub mod Drained
 pub mod Shapes
 pub mod Unchanged
 pub mod Awaits
+pub mod Lowest
 pub mod Windows
+pub mod Entries
 pub mod Holds
 pub mod Told
 pub mod Places

@@ -1,73 +1,18 @@
--- Locks in a block: the lock table tells what the ledger tells, and a done command meets no other processor's lock.
-use Rattle.std.proofs.Common.{◌≡◌, ℕ, zero, suc, ◌+◌, ◌-◌, ◌*◌, ◌<◌, ◌≤◌, Bool, true, false, cond, not, ◌&&◌, ◌||◌, eqb, ltb, leb, ◌⊎◌, List, length, get_or, drop, is_some, Some, None, Option, sym, refl, ap, subst, ◌∙◌, inl, inr, arith, length-drop, length-take}
-use Rattle.std.proofs.lemmas.List.{get_or-take, get_or-drop}
+-- Locks in a block: the lock table tells what the ledger tells.
+use Rattle.std.proofs.Common.{◌≡◌, ℕ, ◌+◌, ◌*◌, ◌<◌, ◌≤◌, Bool, true, false, not, ◌&&◌, ◌||◌, eqb, leb, ◌⊎◌, get_or, is_some, sym, refl, ap, subst, ◌∙◌, inl, inr, arith}
 use Rattle.std.proofs.lemmas.Bool.{false≢true}
 use Rattle.std.proofs.lemmas.Bool.Decides.{eqb_tells, leb_tells, nat_tests}
-use Rattle.std.proofs.lemmas.List.Sums.{get_or-le-sum_by}
-use Rattle.std.specs.List.{count_by}
+use Rattle.std.specs.Cmp.{both_ways}
 use Rattle.protocol.specs.declared.lock.LockEntry.{LockEntry}
 use Rattle.protocol.specs.declared.measures.Measures.{Measures}
-use Rattle.protocol.specs.Finding.{window_of, lowest_from}
-use Rattle.protocol.specs.Places.{locks_start}
 use Rattle.cluster.specs.Locks.{in_use, locks_from, locks_block, entry_of, held_entry, has_lock, other_lock, holder_of}
 use Rattle.cluster.specs.Making.{blank_entry}
 use Rattle.law.specs.Calls.{Board}
 use Rattle.law.specs.Law.{locks_in, locked_by_other}
 use Rattle.law.specs.Ledger.{Ledger, block_of}
+use Rattle.law.proofs.Entries.{EntryAt, entry_at, entry_found, locks_at, at_its_address}
+use Rattle.law.proofs.Lowest.{the_some, lowest_same}
 use Rattle.law.proofs.Told.{Kept, accounts}
-use Rattle.law.proofs.Windows.{first_counted, first_at}
-
-pub same_bool : (a b : Bool) → (a ≡ true → b ≡ true) → (b ≡ true → a ≡ true) → a ≡ b
-same_bool true b there back = sym (there refl)
-same_bool false true there back = back refl
-same_bool false false there back = refl
-
-pub the_some : {X : Type 0} (o : Option X) → is_some o ≡ true → (x : X) × (o ≡ Some x)
-the_some None h = absurd (cc)
-the_some (Some x) h = (x, refl)
-
--- an entry of the processor's window that passes the test
-module _ (m : Measures) (locks : List LockEntry) (p : ℕ) (test : LockEntry → Bool) where
-  pub record Stands (place : ℕ) : Type 0 where
-    pub from : locks_start m p ≤ place
-    pub to : place < locks_start m p + m.lock_entries
-    pub inside : place < length locks
-    pub passes : test (get_or locks place blank_entry) ≡ true
-
-  abbrev window : List LockEntry
-  window = window_of (locks_start m p) m.lock_entries locks
-
-  window_at : (j : ℕ) → j < m.lock_entries → get_or window j blank_entry ≡ get_or locks (locks_start m p + j) blank_entry
-  window_at j low = get_or-take m.lock_entries (drop (locks_start m p) locks) j blank_entry low ∙ get_or-drop (locks_start m p) locks j blank_entry
-
-  pub stands : (i : ℕ) → entry_of m locks p test ≡ Some i → Stands i
-  stands i e =
-      let found = first_at test (locks_start m p) window blank_entry i e in
-      let inside = found.inside in
-      let is = found.is in
-      let long = length-take m.lock_entries (drop (locks_start m p) locks) in
-      let left = length-drop (locks_start m p) locks in
-      let low : found.index < m.lock_entries = omega (arith, inside, long) in
-      record {
-        from = omega (arith, is);
-        to = omega (arith, is, low);
-        inside = omega (arith, is, inside, long, left);
-        passes = ap (λ k. test (get_or locks k blank_entry)) is ∙ ap test (sym (window_at found.index low)) ∙ found.passes;
-      }
-
-  pub found_by : (i : ℕ) → Stands i → is_some (entry_of m locks p test) ≡ true
-  found_by i h =
-      let j = i - locks_start m p in
-      let low : j < m.lock_entries = (let from = h.from in let to = h.to in omega (arith, from, to)) in
-      let at : locks_start m p + j ≡ i = (let from = h.from in omega (arith, from)) in
-      let long = length-take m.lock_entries (drop (locks_start m p) locks) in
-      let left = length-drop (locks_start m p) locks in
-      let there : j < length window = (let inside = h.inside in omega (arith, low, at, inside, long, left)) in
-      let one = get_or-le-sum_by (λ x. cond (test x) 1 0) window j blank_entry there in
-      let passes : test (get_or window j blank_entry) ≡ true = ap test (window_at j low) ∙ ap (λ k. test (get_or locks k blank_entry)) at ∙ h.passes in
-      let counted : 1 ≤ count_by test window = subst (λ b. cond b 1 0 ≤ count_by test window) passes one in
-      let more : ltb 0 (count_by test window) ≡ true = grind (arith, nat_tests) in
-      first_counted test (locks_start m p) window ∙ more
 
 -- an address lies in its block
 in_block : (block a : ℕ) → (leb (4 * block) a && leb a (4 * block + 3)) ≡ true → block_of a ≡ block
@@ -108,7 +53,8 @@ address_in l block p h = elim (one_of_four (l.holds p (4 * block)) (l.holds p (4
 
 pub block_in : (l : Ledger) (block p a : ℕ) → block_of a ≡ block → l.holds p a ≡ true → locks_in l block p ≡ true
 block_in l block p a e h =
-    four_of_one (l.holds p (4 * block)) (l.holds p (4 * block + 1)) (l.holds p (4 * block + 2)) (l.holds p (4 * block + 3)) (by_place (eqb_tells a (4 * block)) (eqb_tells a (4 * block + 1)) (eqb_tells a (4 * block + 2)))
+    four_of_one (l.holds p (4 * block)) (l.holds p (4 * block + 1)) (l.holds p (4 * block + 2)) (l.holds p (4 * block + 3))
+    (by_place (eqb_tells a (4 * block)) (eqb_tells a (4 * block + 1)) (eqb_tells a (4 * block + 2)))
   where
     is_at : (c : ℕ) → a ≡ c → l.holds p c ≡ true
     is_at c same = subst (λ x. l.holds p x ≡ true) same h
@@ -122,17 +68,7 @@ block_in l block p a e h =
     by_place (inr x) (inr y) (inl same) = inr (inr (inl (is_at (4 * block + 2) same.1)))
     by_place (inr x) (inr y) (inr z) = inr (inr (inr (is_at (4 * block + 3) (omega (arith, e, x.1, y.1, z.1)))))
 
--- what the tests for an address and for a block tell of an entry
-pub locks_at : (a : ℕ) (e : LockEntry) → locks_from a a e ≡ true → (in_use e ≡ true) × (e.address ≡ a)
-locks_at a e h = by_use (in_use e) refl h
-  where
-    by_use : (b : Bool) → in_use e ≡ b → (b && leb a e.address && leb e.address a) ≡ true → (in_use e ≡ true) × (e.address ≡ a)
-    by_use true used h = (used, grind (arith, nat_tests, h))
-    by_use false used h = absurd (cc)
-
-pub at_its_address : (a : ℕ) (e : LockEntry) → in_use e ≡ true → e.address ≡ a → locks_from a a e ≡ true
-at_its_address a e used same = rw used (grind (arith, nat_tests, same))
-
+-- what the test for a block tells of an entry
 in_its_block : (block : ℕ) (e : LockEntry) → in_use e ≡ true → block_of e.address ≡ block → locks_block block e ≡ true
 in_its_block block e used same = rw used (by (omega (arith, same)) (omega (arith, same)))
   where
@@ -146,32 +82,26 @@ blocked_at block e h = by_use (in_use e) refl h
     by_use true used h = (used, in_block block e.address h)
     by_use false used h = absurd (cc)
 
--- two searches with tests that agree
-lowest_same : (t u : ℕ → Bool) (count from : ℕ) → ((j : ℕ) → from ≤ j → j < from + count → t j ≡ u j) → lowest_from t from count ≡ lowest_from u from count
-lowest_same t u zero from same = refl
-lowest_same t u (suc count) from same =
-    (λ i. cond (same from (omega arith) (omega arith) i) (Some from) (lowest_same t u count (from + 1) (λ j low high. same j (omega (arith, low)) (omega (arith, high))) i))
-
 -- the locks of the table and of the ledger
 module _ (m : Measures) (b : Board) (l : Ledger) (k : Kept m b l) where
   pub held_is : (p a : ℕ) → p < m.processors → is_some (held_entry m b.locks p a) ≡ l.holds p a
   held_is p a low = let told = accounts m b l k in told.locks p a low
 
   -- an entry in use in the processor's window is a lock of the ledger
-  pub entry_holds : (p place : ℕ) → p < m.processors → Stands m b.locks p in_use place → l.holds p (get_or b.locks place blank_entry).address ≡ true
+  pub entry_holds : (p place : ℕ) → p < m.processors → EntryAt m b.locks p in_use place → l.holds p (get_or b.locks place blank_entry).address ≡ true
   entry_holds p place low h =
       let e = get_or b.locks place blank_entry in
       sym (held_is p e.address low)
-      ∙ found_by m b.locks p (locks_from e.address e.address) place
+      ∙ entry_found m b.locks p (locks_from e.address e.address) place
       (record { from = h.from; to = h.to; inside = h.inside; passes = at_its_address e.address e h.passes refl })
 
-  pub has_lock_is : (block p : ℕ) → p < m.processors → has_lock m b.locks block p ≡ locks_in l block p
-  has_lock_is block p low = same_bool (has_lock m b.locks block p) (locks_in l block p) there back
+  has_lock_is : (block p : ℕ) → p < m.processors → has_lock m b.locks block p ≡ locks_in l block p
+  has_lock_is block p low = both_ways (has_lock m b.locks block p) (locks_in l block p) there back
     where
       there : has_lock m b.locks block p ≡ true → locks_in l block p ≡ true
       there h =
           let (place, at) = the_some (entry_of m b.locks p (locks_block block)) h in
-          let found = stands m b.locks p (locks_block block) place at in
+          let found = entry_at m b.locks p (locks_block block) place at in
           let tells = blocked_at block (get_or b.locks place blank_entry) found.passes in
           block_in l block p (get_or b.locks place blank_entry).address tells.1
           (entry_holds p place low (record { from = found.from; to = found.to; inside = found.inside; passes = tells.0 }))
@@ -180,10 +110,10 @@ module _ (m : Measures) (b : Board) (l : Ledger) (k : Kept m b l) where
       back h =
           let (a, same, held) = address_in l block p h in
           let (place, at) = the_some (held_entry m b.locks p a) (held_is p a low ∙ held) in
-          let found = stands m b.locks p (locks_from a a) place at in
+          let found = entry_at m b.locks p (locks_from a a) place at in
           let e = get_or b.locks place blank_entry in
           let tells = locks_at a e found.passes in
-          found_by m b.locks p (locks_block block) place
+          entry_found m b.locks p (locks_block block) place
           (record { from = found.from; to = found.to; inside = found.inside; passes = in_its_block block e tells.0 (ap block_of tells.1 ∙ same) })
 
   pub holder_is : (asking block : ℕ) → is_some (holder_of m b.locks asking block) ≡ locked_by_other m l asking block

@@ -1,50 +1,47 @@
 -- No two processors hold locks in one block, and WAIT is answered exactly where another holds one.
-use Rattle.std.proofs.Common.{◌≡◌, ℕ, ◌/◌, ◌<◌, Bool, true, false, cond, not, ◌&&◌, ◌||◌, eqb, leb, ◌⊎◌, is_some, Some, None, Option, sym, refl, ap, ◌∙◌, subst, inl, inr, arith}
+use Rattle.std.proofs.Common.{◌≡◌, ℕ, ◌/◌, ◌<◌, Bool, true, false, cond, not, ◌&&◌, ◌||◌, ◌⊎◌, List, is_some, Some, None, Option, sym, refl, ap, ◌∙◌, subst, inl, inr}
 use Prim.{tt}
-use Rattle.std.proofs.lemmas.Bool.{false≢true, cond_both, false_from_ne_true}
-use Rattle.std.proofs.lemmas.Bool.Decides.{eqb_tells, nat_tests}
+use Rattle.std.proofs.lemmas.Bool.{leb-false}
 use Rattle.protocol.specs.declared.command.Action.{Action}
 use Rattle.protocol.specs.declared.command.Action.TheVariants as action
-use Rattle.protocol.specs.declared.command.Command.{Command}
-use Rattle.protocol.specs.declared.command.Command.TheVariants.{R, W, DW, RI, RP, RB, LR, UW, U}
 use Rattle.protocol.specs.declared.command.Request.{Request}
+use Rattle.protocol.specs.declared.line.Line.{Line}
+use Rattle.protocol.specs.declared.lock.LockEntry.{LockEntry}
 use Rattle.protocol.specs.declared.measures.Measures.{Measures}
 use Rattle.protocol.specs.declared.state.State.{State}
 use Rattle.protocol.specs.declared.state.State.TheVariants.{I, S, SM, EC, EM}
 use Rattle.protocol.specs.declared.table.Effect.{Effect}
-use Rattle.protocol.specs.Acting.{at_start, at_last, acts_as}
+use Rattle.protocol.specs.Acting.{acts_as}
 use Rattle.protocol.specs.Entries.{valid}
-use Rattle.protocol.specs.Finding.{lowest_from}
 use Rattle.protocol.specs.StateTable.{cell_of}
-use Rattle.protocol.proofs.Finding.{Lowest, lowest_tells, lowest_none}
+use Rattle.memory.specs.Meaning.{Mem}
+use Rattle.cluster.specs.declared.cluster.Processor.{Processor}
 use Rattle.cluster.specs.Copies.{line_of, line_at, supplier_of}
 use Rattle.cluster.specs.Doing.{asks_for_block, lock_hit, is_unlock}
 use Rattle.cluster.specs.Locks.{held_entry, holder_of}
 use Rattle.cluster.specs.Refusing.{is_direct_write}
 use Rattle.cluster.specs.Rule.{Outcome}
-use Rattle.cluster.specs.Settling.{takes_lock, releases_lock, ul_sent}
+use Rattle.cluster.specs.Settling.{releases_lock, ul_sent}
 use Rattle.law.specs.Calls.{Board}
 use Rattle.law.specs.Law.{WaitsIf, owner, locks_in, locked_by_other}
 use Rattle.law.specs.Ledger.{Ledger, block_of, command_fed, done_by}
-use Rattle.law.proofs.Holds.{held_after, done_holds}
+use Rattle.law.proofs.Cells.{acts_unlock}
+use Rattle.law.proofs.Holds.{Lock, older, newer, lock_after}
 use Rattle.law.proofs.Invariant.{at_in, copy, HolderAlone, OneHolder}
 use Rattle.law.proofs.LockLaw.{address_in, block_in, held_is, holder_is}
-use Rattle.law.proofs.Shapes.{Shape, refused, waited, finished, Finished}
+use Rattle.law.proofs.Lowest.{none_other, no_other}
+use Rattle.law.proofs.Shapes.{Shape, refused, waited, finished, Waited, Finished}
 use Rattle.law.proofs.Told.{Kept}
 
 -- only processors of the geometry hold locks
 abbrev pub HoldersListed : Measures → Ledger → Type 0
 HoldersListed m l = (p a : ℕ) → l.holds p a ≡ true → p < m.processors
 
-pub some_passes : (t : ℕ → Bool) (n j : ℕ) → j < n → t j ≡ true → is_some (lowest_from t 0 n) ≡ true
-some_passes t n j low e = by_found (lowest_from t 0 n) (lowest_tells t n 0)
-  where
-    by_found : (o : Option ℕ) → Lowest t 0 n o → is_some o ≡ true
-    by_found None none = absurd (false≢true (sym (none j (omega arith) (omega (arith, low))) ∙ e))
-    by_found (Some i) h = refl
-
-none_passes : (t : ℕ → Bool) (n j : ℕ) → j < n → is_some (lowest_from t 0 n) ≡ false → t j ≡ false
-none_passes t n j low e = false_from_ne_true (t j) (λ h. false≢true (sym e ∙ some_passes t n j low h))
+-- the own copy that a command finds stands in its own cache
+abbrev pub OwnFound : Measures → Board → Type 0
+OwnFound m b =
+    (q : Request) → q.processor < m.processors → valid (line_at b.lines (line_of m b.lines q.processor (q.address / 4))).state ≡ true
+    → (i : ℕ) × copy (at_in b.lines) (q.address / 4) i × (owner m i ≡ q.processor)
 
 -- a cell that sends neither F, FI nor LK is of a copy that is there, of DW or of U
 abbrev guarded : Option Effect → Bool
@@ -65,29 +62,22 @@ each_cell action.LR I = refl
 each_cell action.UW I = refl
 each_cell action.U I = refl
 
-unlocks : (c : Command) (a : ℕ) (s : State) (elsewhere : Bool) → is_unlock (acts_as c a s elsewhere) ≡ true → releases_lock c ≡ true
-unlocks R a s elsewhere h = h
-unlocks (W word) a s elsewhere h = h
-unlocks (DW word) a s elsewhere h = cond_both (at_start a) action.DW action.W (λ x. is_unlock x ≡ true → false ≡ true) (λ e x. x) (λ e x. x) h
-unlocks RI a s elsewhere h = h
-unlocks RP a s elsewhere h = h
-unlocks RB a s elsewhere h =
-    cond_both (at_last a) action.RP _ (λ x. is_unlock x ≡ true → false ≡ true) (λ e x. x)
-    (λ e. cond_both (not (valid s) && elsewhere) action.RI action.R (λ x. is_unlock x ≡ true → false ≡ true) (λ e x. x) (λ e x. x)) h
-unlocks LR a s elsewhere h = h
-unlocks (UW word) a s elsewhere h = refl
-unlocks U a s elsewhere h = refl
-
 -- what a lock hit tells of the holder
 no_hit : (asks lk : Bool) (holder : Option ℕ) → cond asks holder (cond lk holder None) ≡ None → (asks || lk) ≡ true → is_some holder ≡ false
 no_hit true lk holder e g = ap is_some e
 no_hit false true holder e g = ap is_some e
 no_hit false false holder e g = absurd (cc)
 
-pub hit_by : (asks lk : Bool) (holder : Option ℕ) (p : ℕ) → cond asks holder (cond lk holder None) ≡ Some p → is_some holder ≡ true
+hit_by : (asks lk : Bool) (holder : Option ℕ) (p : ℕ) → cond asks holder (cond lk holder None) ≡ Some p → is_some holder ≡ true
 hit_by true lk holder p e = ap is_some e
 hit_by false true holder p e = ap is_some e
 hit_by false false holder p e = absurd (cc)
+
+pub held_elsewhere : (m : Measures) (ps : List Processor) (lines : List Line) (locks : List LockEntry) (mem : Mem) (q : Request) (o : Outcome)
+    → Waited m ps lines locks mem q o → is_some (holder_of m locks q.processor (q.address / 4)) ≡ true
+held_elsewhere m ps lines locks mem q o w =
+    let effect = w.facts.effect in
+    hit_by (asks_for_block effect.bus) effect.lk (holder_of m locks q.processor (q.address / 4)) w.blocker (sym (ap lock_hit w.facts.is) ∙ w.hit)
 
 not_elsewhere : (d v c h : Bool) → (d && not v && (c || h)) ≡ false → d ≡ true → v ≡ false → h ≡ false
 not_elsewhere true false true h e x y = absurd (cc)
@@ -100,34 +90,8 @@ has_it true true e x = refl
 has_it true false e x = absurd (cc)
 has_it false h e x = absurd (cc)
 
--- an address that is held after a done command was held before, or LR took it
-held_was : (l : Ledger) (c : Command) (p0 a0 p a : ℕ) → held_after c p0 a0 l p a ≡ true
-    → (l.holds p a ≡ true) ⊎ ((takes_lock c ≡ true) × (p ≡ p0) × (a ≡ a0))
-held_was l c p0 a0 p a = by_tests (takes_lock c) (releases_lock c) (eqb p p0) (eqb a a0) refl refl refl
-  where
-    equal : (x y : ℕ) → eqb x y ≡ true → x ≡ y
-    equal x y e = elim (eqb_tells x y) [
-      | inl same ↦ same.1
-      | inr other ↦ absurd (false≢true (sym other.0 ∙ e))
-    ]
-
-    by_tests : (t r i j : Bool) → takes_lock c ≡ t → eqb p p0 ≡ i → eqb a a0 ≡ j
-        → cond t (cond (i && j) true (l.holds p a)) (cond r (cond (i && j) false (l.holds p a)) (l.holds p a)) ≡ true
-        → (l.holds p a ≡ true) ⊎ ((takes_lock c ≡ true) × (p ≡ p0) × (a ≡ a0))
-    by_tests true r true true e x y h = inr (e, equal p p0 x, equal a a0 y)
-    by_tests true r true false e x y h = inl h
-    by_tests true r false j e x y h = inl h
-    by_tests false true true true e x y h = absurd (cc)
-    by_tests false true true false e x y h = inl h
-    by_tests false true false j e x y h = inl h
-    by_tests false false i j e x y h = inl h
-
-pub low_of : (m : Measures) (p : ℕ) → leb m.processors p ≡ false → p < m.processors
-low_of m p h = grind (arith, nat_tests)
-
 module _ (m : Measures) (b : Board) (l : Ledger) (k : Kept m b l) (one : OneHolder l) (alone : HolderAlone m (at_in b.lines) l) (listed : HoldersListed m l)
-    (own : (q : Request) → q.processor < m.processors → valid (line_at b.lines (line_of m b.lines q.processor (q.address / 4))).state ≡ true
-    → (i : ℕ) × copy (at_in b.lines) (q.address / 4) i × (owner m i ≡ q.processor)) (q : Request) where
+    (own : OwnFound m b) (q : Request) where
   abbrev holder : Option ℕ
   holder = holder_of m b.locks q.processor (q.address / 4)
 
@@ -145,11 +109,12 @@ module _ (m : Measures) (b : Board) (l : Ledger) (k : Kept m b l) (one : OneHold
         let effect = facts.effect in
         let hit : cond (asks_for_block effect.bus) holder (cond effect.lk holder None) ≡ None = sym (ap lock_hit facts.is) ∙ f.free in
         let cell = subst (λ x. (valid found || (is_direct_write acts || (is_unlock acts || guarded x))) ≡ true) facts.cell (each_cell acts found) in
-        let low = low_of m q.processor facts.known in
+        let low = leb-false m.processors q.processor facts.known in
         by_cell (valid found) (is_direct_write acts) (is_unlock acts) (asks_for_block effect.bus || effect.lk) refl refl refl cell
         (not_elsewhere (is_direct_write acts) (valid found) _ (is_some holder) facts.alone)
         (λ u. sym (held_is m b l k q.processor q.address low)
-        ∙ has_it (releases_lock q.command) (is_some (held_entry m b.locks q.processor q.address)) facts.held (unlocks q.command q.address found _ u))
+        ∙ has_it (releases_lock q.command) (is_some (held_entry m b.locks q.processor q.address)) facts.held
+        (ap releases_lock (acts_unlock q.address found _ q.command u)))
         (no_hit (asks_for_block effect.bus) effect.lk holder hit)
       where
         by_cell : (v d u g : Bool) → valid found ≡ v → is_direct_write acts ≡ d → is_unlock acts ≡ u → (v || (d || (u || g))) ≡ true
@@ -165,56 +130,47 @@ module _ (m : Measures) (b : Board) (l : Ledger) (k : Kept m b l) (one : OneHold
     pub no_other_holder : (p a : ℕ) → l.holds p a ≡ true → block_of a ≡ block_of q.address → p ≡ q.processor
     no_other_holder p a h same = elim ways [
       | inl there ↦
-          let (i, stands, mine) = own q (low_of m q.processor f.facts.known) there in
+          let (i, stands, mine) = own q (leb-false m.processors q.processor f.facts.known) there in
           sym (alone p a i h (subst (λ x. copy (at_in b.lines) x i) (sym same) stands)) ∙ mine
-      | inr (inl none) ↦ elim (eqb_tells p q.processor) [
-        | inl is ↦ is.1
-        | inr other ↦
-            let free = none_passes (λ j. not (eqb j q.processor) && locks_in l (block_of q.address) j) m.processors p (listed p a h) (sym (holder_is m b l k q.processor (block_of q.address)) ∙ none) in
-            absurd (false≢true (sym free ∙ (rw (other.0, block_in l (block_of q.address) p a same h) refl)))
-      ]
+      | inr (inl none) ↦
+          none_other (locks_in l (block_of q.address)) q.processor m.processors (sym (holder_is m b l k q.processor (block_of q.address)) ∙ none)
+          p (listed p a h) (block_in l (block_of q.address) p a same h)
       | inr (inr mine) ↦ one q.processor p q.address a mine h (sym same)
     ]
 
     no_other_lock : locked_by_other m l q.processor (block_of q.address) ≡ false
-    no_other_lock = ap is_some (lowest_none (λ j. not (eqb j q.processor) && locks_in l (block_of q.address) j) m.processors 0 (λ j low high. elim (eqb_tells j q.processor) [
-      | inl is ↦ rw is.0 refl
-      | inr other ↦
-          rw other.0 (false_from_ne_true (locks_in l (block_of q.address) j)
-          (λ e. let (a, same, held) = address_in l (block_of q.address) j e in other.1 (no_other_holder j a held same)))
-    ]))
+    no_other_lock = no_other (locks_in l (block_of q.address)) q.processor m.processors
+        (λ j low e. let (a, same, held) = address_in l (block_of q.address) j e in no_other_holder j a held same)
 
     abbrev after : Ledger
     after = done_by q.processor q.address (ul_sent f.case.command b.locks f.case.entry) q.command l
 
-    was : (p a : ℕ) → after.holds p a ≡ true → (l.holds p a ≡ true) ⊎ ((takes_lock q.command ≡ true) × (p ≡ q.processor) × (a ≡ q.address))
-    was p a h =
-        held_was l q.command q.processor q.address p a
-        (sym (done_holds l q.command q.processor q.address (ul_sent f.case.command b.locks f.case.entry) p a) ∙ h)
+    abbrev LockOf : ℕ → ℕ → Type 0
+    LockOf p a = Lock q.command q.processor q.address l p a
+
+    lock_of : (p a : ℕ) → after.holds p a ≡ true → LockOf p a
+    lock_of = lock_after q.command q.processor q.address (ul_sent f.case.command b.locks f.case.entry) l
 
     one_done : OneHolder after
-    one_done p r a c x y same = elim (was p a x) [
-      | inl old ↦ elim (was r c y) [
-        | inl before ↦ one p r a c old before same
-        | inr taken ↦ taken.1 ∙ sym (no_other_holder p a old (same ∙ ap block_of taken.2))
-      ]
-      | inr first ↦ elim (was r c y) [
-        | inl before ↦ no_other_holder r c before (sym same ∙ ap block_of first.2) ∙ sym first.1
-        | inr taken ↦ taken.1 ∙ sym first.1
-      ]
-    ]
+    one_done p r a c x y same = by_locks (lock_of p a x) (lock_of r c y)
+      where
+        by_locks : LockOf p a → LockOf r c → r ≡ p
+        by_locks (older held) (older held_too) = one p r a c held held_too same
+        by_locks (older held) (newer takes at_r at_c) = at_r ∙ sym (no_other_holder p a held (same ∙ ap block_of at_c))
+        by_locks (newer takes at_p at_a) (older held) = no_other_holder r c held (sym same ∙ ap block_of at_a) ∙ sym at_p
+        by_locks (newer takes at_p at_a) (newer takes_too at_r at_c) = at_r ∙ sym at_p
 
     listed_done : HoldersListed m after
-    listed_done p a h = elim (was p a h) [
-      | inl old ↦ listed p a old
-      | inr taken ↦ subst (λ x. x < m.processors) (sym taken.1) (low_of m q.processor f.facts.known)
-    ]
+    listed_done p a h = by_lock (lock_of p a h)
+      where
+        by_lock : LockOf p a → p < m.processors
+        by_lock (older held) = listed p a held
+        by_lock (newer takes at_p at_a) = subst (λ x. x < m.processors) (sym at_p) (leb-false m.processors q.processor f.facts.known)
 
   pub waits_law : (o : Outcome) → Shape m b.processors b.lines b.locks b.memory q o → WaitsIf (locked_by_other m l q.processor (block_of q.address)) o.answer
   waits_law o (refused e is) = subst (λ x. WaitsIf (locked_by_other m l q.processor (block_of q.address)) x.answer) (sym is) tt
   waits_law o (waited w) =
-      let effect = w.facts.effect in
-      let hit : is_some holder ≡ true = hit_by (asks_for_block effect.bus) effect.lk holder w.blocker (sym (ap lock_hit w.facts.is) ∙ w.hit) in
+      let hit = held_elsewhere m b.processors b.lines b.locks b.memory q o w in
       subst (λ x. WaitsIf (locked_by_other m l q.processor (block_of q.address)) x.answer) (sym w.is)
       (sym (holder_is m b l k q.processor (block_of q.address)) ∙ hit)
   waits_law o (finished f) = subst (λ x. WaitsIf (locked_by_other m l q.processor (block_of q.address)) x.answer) (sym f.is) (no_other_lock o f)

@@ -1,25 +1,17 @@
 -- What is kept of locks and waits from call to call, and the promises that follow from it.
-use Rattle.std.proofs.Common.{◌≡◌, ℕ, ◌/◌, ◌<◌, ◌≤◌, true}
+use Rattle.std.proofs.Common.{◌≤◌}
 use Rattle.protocol.specs.declared.command.Request.{Request}
 use Rattle.protocol.specs.declared.measures.Measures.{Measures}
-use Rattle.protocol.specs.Entries.{valid}
 use Rattle.memory.specs.Meaning.{Mem}
-use Rattle.cluster.specs.Copies.{line_of, line_at}
 use Rattle.law.specs.Accounts.{new_board}
 use Rattle.law.specs.Calls.{Call, command, drain, census, question, Board, command_on, said_by, left_by}
-use Rattle.law.specs.Law.{WaitsIf, owner, locked_by_other}
+use Rattle.law.specs.Law.{WaitsIf, locked_by_other}
 use Rattle.law.specs.Ledger.{Ledger, block_of, opened, fed}
-use Rattle.law.proofs.Invariant.{at_in, copy, HolderAlone, OneHolder, AllMarked}
-use Rattle.law.proofs.LocksKept.{HoldersListed, one_kept, listed_kept, waits_law}
+use Rattle.law.proofs.Invariant.{at_in, HolderAlone, OneHolder, AllMarked}
+use Rattle.law.proofs.LocksKept.{HoldersListed, OwnFound, one_kept, listed_kept, waits_law}
 use Rattle.law.proofs.Marked.{marked_kept, new_one_holder, new_marked, new_listed}
 use Rattle.law.proofs.Shapes.{shape}
 use Rattle.law.proofs.Told.{Kept, new_kept, kept_on}
-
--- the own copy that a command finds stands in its own cache
-abbrev pub OwnFound : Measures → Board → Type 0
-OwnFound m b =
-    (q : Request) → q.processor < m.processors → valid (line_at b.lines (line_of m b.lines q.processor (q.address / 4))).state ≡ true
-    → (i : ℕ) × copy (at_in b.lines) (q.address / 4) i × (owner m i ≡ q.processor)
 
 pub record LocksHold (m : Measures) (b : Board) (l : Ledger) : Type 0 where
   pub kept : Kept m b l

@@ -1,6 +1,6 @@
 -- Who waits for a block has an entry that somebody waits for, and so a block without locks has nobody that waits for it.
 use Prim.{tt}
-use Rattle.std.proofs.Common.{◌≡◌, ℕ, zero, suc, ◌+◌, ◌*◌, ◌<◌, ◌≤◌, Bool, true, false, cond, not, ◌&&◌, eqb, ◌⊎◌, List, [], ◌∷◌, length, get_or, is_some, Some, None, Ok, Err, Option, Result, sym, refl, ap, ◌∙◌, subst, inl, inr, suc-mul, arith, length-set}
+use Rattle.std.proofs.Common.{◌≡◌, ℕ, zero, suc, ◌+◌, ◌*◌, ◌<◌, ◌≤◌, Bool, true, false, cond, not, ◌&&◌, eqb, ◌⊎◌, List, length, get_or, is_some, Some, None, Ok, Err, Option, Result, sym, refl, ap, ◌∙◌, subst, inl, inr, suc-mul, arith, length-set}
 use Rattle.std.proofs.lemmas.List.{get_or-set_other}
 use Rattle.std.proofs.lemmas.Bool.{false≢true, cond_both, false_from_ne_true}
 use Rattle.std.proofs.lemmas.Bool.Decides.{eqb_tells, leb_tells, nat_tests}
@@ -15,25 +15,24 @@ use Rattle.protocol.specs.declared.refusal.Refusal.{Refusal}
 use Rattle.protocol.specs.Entries.{locked as entry_locked}
 use Rattle.protocol.specs.Finding.{unused}
 use Rattle.protocol.specs.Places.{locks_start}
-use Rattle.protocol.proofs.Finding.{Lowest, lowest_tells}
 use Rattle.memory.specs.Meaning.{Mem}
-use Rattle.cluster.specs.Doing.{asks_for_block, lock_hit}
-use Rattle.cluster.specs.Locks.{in_use, locks_from, locks_block, entry_of, held_entry, free_entry, has_lock, other_lock, holder_of, own_entry, waited_at, waited_for, waits_on, somebody_waits}
+use Rattle.cluster.specs.Locks.{in_use, locks_from, locks_block, entry_of, held_entry, free_entry, has_lock, holder_of, own_entry, waited_at, waited_for, waits_on, somebody_waits}
 use Rattle.cluster.specs.Making.{blank_entry}
 use Rattle.cluster.specs.Refusing.{entry_used}
 use Rattle.cluster.specs.Rule.{Outcome}
 use Rattle.cluster.specs.Settling.{takes_lock, releases_lock, locks_settled, ul_sent}
-use Rattle.cluster.specs.Tables.{map_from}
 use Rattle.law.specs.Calls.{Board, command, command_on, left_by}
 use Rattle.law.specs.Law.{OnDone, locks_in, locked}
 use Rattle.law.specs.Ledger.{Ledger, block_of, opened, waits_in, command_fed, done_by}
 use Rattle.law.proofs.Awaits.{wake, done_waits, ul_quiet}
+use Rattle.law.proofs.Entries.{entry_at, locks_at}
 use Rattle.law.proofs.Invariant.{OneHolder, Marked, AllMarked}
-use Rattle.law.proofs.LockLaw.{the_some, stands, locks_at, blocked_at, block_in, entry_holds}
-use Rattle.law.proofs.LocksKept.{HoldersListed, some_passes, hit_by}
+use Rattle.law.proofs.LockLaw.{blocked_at, block_in, entry_holds}
+use Rattle.law.proofs.LocksKept.{HoldersListed, held_elsewhere}
+use Rattle.law.proofs.Lowest.{the_some, some_passes, other_found}
 use Rattle.law.proofs.Shapes.{Shape, refused, waited, finished, shape}
-use Rattle.law.proofs.Told.{Kept, kept_on, length-map}
-use Rattle.law.proofs.Windows.{apart}
+use Rattle.law.proofs.Told.{Kept, kept_on}
+use Rattle.law.proofs.Windows.{apart, length-map, get_or-map}
 
 -- an entry that somebody waits for is in use
 waited_used : (e : LockEntry) → somebody_waits e ≡ true → in_use e ≡ true
@@ -52,7 +51,7 @@ window_with n (suc count) i h = elim (leb_tells (count * n) i) [
   | inr below ↦ (let (p, low, from, to) = window_with n count i below.1 in (p, omega (arith, low), from, to))
 ]
 
-pub marked_locked : (m : Measures) (b : Board) (l : Ledger) → Kept m b l → (block : ℕ) → Marked b.locks block → locked m l block ≡ true
+marked_locked : (m : Measures) (b : Board) (l : Ledger) → Kept m b l → (block : ℕ) → Marked b.locks block → locked m l block ≡ true
 marked_locked m b l k block mark =
     let inside = mark.inside in
     let fit = k.fit in
@@ -63,7 +62,7 @@ marked_locked m b l k block mark =
     (entry_holds m b l k p mark.place low (record { from = from; to = to; inside = inside; passes = waited_used e mark.waited })))
 
 -- without a lock in the block nobody waits for it
-pub nobody_waits : (m : Measures) (b : Board) (l : Ledger) → Kept m b l → AllMarked b.locks l → (block : ℕ) → locked m l block ≡ false
+nobody_waits : (m : Measures) (b : Board) (l : Ledger) → Kept m b l → AllMarked b.locks l → (block : ℕ) → locked m l block ≡ false
     → (r : ℕ) → waits_in block (l.waits r) ≡ false
 nobody_waits m b l k marked block free r = by_wait (l.waits r) refl
   where
@@ -74,20 +73,12 @@ nobody_waits m b l k marked block free r = by_wait (l.waits r) refl
       | inr other ↦ other.0
     ]
 
--- a table whose entries are changed by their place
-at_map : {X : Type 0} (f : ℕ → X → X) (at : ℕ) (xs : List X) (i : ℕ) (d : X) → i < length xs → get_or (map_from f at xs) i d ≡ f (at + i) (get_or xs i d)
-at_map f at [] i d h = absurd (omega (arith, h))
-at_map f at (x ∷ xs) zero d h = let same : at ≡ at + 0 = omega arith in ap (λ k. f k x) same
-at_map f at (x ∷ xs) (suc i) d h =
-    let same : at + 1 + i ≡ at + suc i = omega arith in
-    at_map f (at + 1) xs i d (omega (arith, h)) ∙ ap (λ k. f k (get_or xs i d)) same
-
 -- the entries after a WAIT
 module _ (m : Measures) (locks : List LockEntry) (asking block : ℕ) where
   at_waited : (i : ℕ) → i < length locks → get_or (waited_for m locks asking block) i blank_entry ≡ waited_at m asking block i (get_or locks i blank_entry)
   at_waited i h =
       let same : 0 + i ≡ i = omega arith in
-      at_map (waited_at m asking block) 0 locks i blank_entry h ∙ ap (λ k. waited_at m asking block k (get_or locks i blank_entry)) same
+      get_or-map (waited_at m asking block) 0 locks i blank_entry h ∙ ap (λ k. waited_at m asking block k (get_or locks i blank_entry)) same
 
   -- an entry that is waited for after it, by what becomes of it
   mark_at : (i to : ℕ) → i < length locks → somebody_waits (waited_at m asking block i (get_or locks i blank_entry)) ≡ true
@@ -115,25 +106,21 @@ module _ (m : Measures) (locks : List LockEntry) (asking block : ℕ) where
 
   -- the one that asks waits for the holder's entry
   newly_marked : is_some (holder_of m locks asking block) ≡ true → Marked (waited_for m locks asking block) block
-  newly_marked h = by_found (holder_of m locks asking block) (lowest_tells (other_lock m locks asking block) m.processors 0) h
+  newly_marked h =
+      let (p, at) = the_some (holder_of m locks asking block) h in
+      let other = other_found (has_lock m locks block) asking m.processors p at in
+      by_entry p other.1 other.2
     where
       by_entry : (p : ℕ) → (p ≡ asking → ⊥) → has_lock m locks block p ≡ true → Marked (waited_for m locks asking block) block
       by_entry p other has =
           let (i, at) = the_some (entry_of m locks p (locks_block block)) has in
-          let found = stands m locks p (locks_block block) i at in
+          let found = entry_at m locks p (locks_block block) i at in
           let e = get_or locks i blank_entry in
           let tells = blocked_at block e found.passes in
           let test : (not (own_entry m asking i) && locks_block block e) ≡ true = rw (not_own p i other found.from found.to, found.passes) refl in
           mark_at i block found.inside
           (ap (λ t. somebody_waits (cond t (record { state = LW; address = e.address }) e)) test)
           (ap (λ t. block_of (cond t (record { state = LW; address = e.address }) e).address) test ∙ tells.1)
-
-      by_found : (o : Option ℕ) → Lowest (other_lock m locks asking block) 0 m.processors o → is_some o ≡ true → Marked (waited_for m locks asking block) block
-      by_found None none s = absurd (cc)
-      by_found (Some p) tells s = elim (eqb_tells p asking) [
-        | inl same ↦ absurd (false≢true (rw same.0 at tells.2))
-        | inr other ↦ by_entry p other.1 (rw other.0 at tells.2)
-      ]
 
 -- a processor that waits still after UL waits for another block
 still_waits : (u : Bool) (block to : ℕ) (w : Option ℕ) → cond u (wake block w) w ≡ Some to → (w ≡ Some to) × (u ≡ true → to ≡ block → ⊥)
@@ -154,10 +141,10 @@ module _ (m : Measures) (locks : List LockEntry) (q : Request) where
           → cond t (free_entry m locks q.processor) (cond r (held_entry m locks q.processor q.address) None) ≡ Some i
           → (in_use (get_or locks i blank_entry) ≡ false) ⊎ ((takes_lock q.command ≡ false) × ((get_or locks i blank_entry).address ≡ q.address))
       by_tests true r e h =
-          let found = stands m locks q.processor (unused in_use) i h in
+          let found = entry_at m locks q.processor (unused in_use) i h in
           inl (false_from_ne_true (in_use (get_or locks i blank_entry)) (λ used. false≢true (sym (ap not used) ∙ found.passes)))
       by_tests false true e h =
-          let found = stands m locks q.processor (locks_from q.address q.address) i h in
+          let found = entry_at m locks q.processor (locks_from q.address q.address) i h in
           let tells = locks_at q.address (get_or locks i blank_entry) found.passes in
           inr (e, tells.1)
       by_tests false false e h = absurd (cc)
@@ -167,7 +154,9 @@ module _ (m : Measures) (locks : List LockEntry) (q : Request) where
       → (ul_sent q.command locks entry ≡ true → to ≡ block_of q.address → ⊥) → Marked (locks_settled q.command q.address locks entry) to
   marked_settled None same to mark quiet = mark
   marked_settled (Some i) same to mark quiet = elim (eqb_tells mark.place i) [
-    | inl here ↦ absurd (not_here (subst (λ k. somebody_waits (get_or locks k blank_entry) ≡ true) here.1 mark.waited) (subst (λ k. block_of (get_or locks k blank_entry).address ≡ to) here.1 mark.here))
+    | inl here ↦
+        absurd (not_here (subst (λ k. somebody_waits (get_or locks k blank_entry) ≡ true) here.1 mark.waited)
+        (subst (λ k. block_of (get_or locks k blank_entry).address ≡ to) here.1 mark.here))
     | inr other ↦
         let stays = get_or-set_other locks i mark.place _ blank_entry other.1 in
         record {
@@ -210,8 +199,7 @@ module _ (m : Measures) (b : Board) (l : Ledger) (marked : AllMarked b.locks l) 
   pub marked_kept : (o : Outcome) → Shape m b.processors b.lines b.locks b.memory q o → AllMarked o.locks (command_fed q o.answer l)
   marked_kept o (refused e is) = subst (λ x. AllMarked x.locks (command_fed q x.answer l)) (sym is) marked
   marked_kept o (waited w) =
-      let effect = w.facts.effect in
-      let hit = hit_by (asks_for_block effect.bus) effect.lk (holder_of m b.locks q.processor block) w.blocker (sym (ap lock_hit w.facts.is) ∙ w.hit) in
+      let hit = held_elsewhere m b.processors b.lines b.locks b.memory q o w in
       subst (λ x. AllMarked x.locks (command_fed q x.answer l)) (sym w.is)
       (λ r to e. subst (λ c. Marked (waited_for m b.locks c.processor c.block) to) (sym w.facts.is) (marked_waiting hit r to e))
   marked_kept o (finished f) =

@@ -1,7 +1,6 @@
 -- A done command whose own cache does not have the block.
 use Rattle.std.proofs.Common.{◌≡◌, ℕ, ◌/◌, ◌<◌, Bool, true, false, cond, not, ◌&&◌, ◌⊎◌, List, length, get_or, is_some, Some, None, Ok, Err, Option, Result, sym, refl, ap, ◌∙◌, subst, inl, inr}
 use Rattle.std.proofs.lemmas.Bool.{false≢true, or_parts}
-use Rattle.std.proofs.lemmas.Bool.Decides.{eqb_tells}
 use Rattle.protocol.specs.declared.answer.Supplier.TheVariants.{Memory, Cache}
 use Rattle.protocol.specs.declared.command.Action.{Action}
 use Rattle.protocol.specs.declared.command.BusCommand.{BusCommand}
@@ -15,9 +14,7 @@ use Rattle.protocol.specs.declared.refusal.Direction.TheVariants.{Read}
 use Rattle.protocol.specs.declared.refusal.Refusal.TheVariants.{Memory as RefusedByMemory}
 use Rattle.protocol.specs.declared.state.State.{State}
 use Rattle.protocol.specs.declared.state.State.TheVariants.{I, S, EC, EM}
-use Rattle.protocol.specs.Acting.{words_left}
 use Rattle.protocol.specs.Entries.{valid}
-use Rattle.protocol.specs.Lines.{blank_line}
 use Rattle.protocol.specs.Places.{line_count}
 use Rattle.protocol.specs.StateTable.{cell_of}
 use Rattle.memory.specs.Meaning.{Mem, grants}
@@ -31,22 +28,23 @@ use Rattle.cluster.specs.Refusing.{is_direct_write}
 use Rattle.cluster.specs.Rule.{Outcome}
 use Rattle.cluster.specs.Settling.{takes_lock}
 use Rattle.cluster.specs.Ways.{taken_way}
+use Rattle.law.proofs.Hearing.{clears}
 use Rattle.law.proofs.Invariant.{at_in, copy, Coherent, Homed}
-use Rattle.law.proofs.Cells.{miss, MissCell, Miss, reads_shared, takes, purges, makes, acts_drops, acts_writes, acts_fresh, acts_locks, writes, drops, unwritten}
-use Rattle.law.proofs.Leaving.{own_line, Kind, left_em, left_ec, left_i, left_s}
-use Rattle.law.proofs.Moving.{Moved, clears, in_state_valid, valid_in_state}
+use Rattle.law.proofs.Cells.{miss, MissCell, Miss, reads_shared, takes, purges, makes, writes, drops}
+use Rattle.law.proofs.Leaving.{Kind, left_em, left_ec, left_i, left_s}
+use Rattle.law.proofs.Moving.{Moved}
 use Rattle.law.proofs.Owning.{Only, only_cleared, only_copy}
 use Rattle.law.proofs.Places.{found_at, found_none, supplier_some, supplier_none}
 use Rattle.law.proofs.Placing.{placed_at, miss_moved}
-use Rattle.law.proofs.Replacing.{without, without_fewer, copy_fewer, given_back, replaced}
+use Rattle.law.proofs.Replacing.{without, without_here, without_fewer, copy_fewer, given_back, replaced}
 use Rattle.law.proofs.Shapes.{found, action_of}
 use Rattle.law.proofs.Taking.{way_home}
-use Rattle.law.proofs.Words.{purging, fresh}
-use Rattle.law.proofs.Doing.{taken_with, Done, ok_same}
+use Rattle.law.proofs.Words.{fresh}
+use Rattle.law.proofs.Doing.{taken_with, Done, ok_same, made_state, made_line, made_named, unasked_supply, asked_supply, fresh_made, purging_is, same_words, stale_by, takes_locked}
 
-module _ (m : Measures) (some_columns : 0 < m.columns) (some_ways : 0 < m.ways) (ps : List Processor) (lines : List Line) (locks : List LockEntry) (mem : Mem)
-    (q : Request) (fit : length lines ≡ line_count m) (homed : Homed m (at_in lines)) (truth : ℕ → List ℕ) (coherent : Coherent (at_in lines) mem.words truth)
-    (o : Outcome) (d : Done m ps lines locks mem q o) (e : line_of m lines q.processor (q.address / 4) ≡ None) where
+module _ {m : Measures} (some_columns : 0 < m.columns) (some_ways : 0 < m.ways) {ps : List Processor} {lines : List Line} {locks : List LockEntry} {mem : Mem}
+    {q : Request} (fit : length lines ≡ line_count m) (homed : Homed m (at_in lines)) {truth : ℕ → List ℕ} (coherent : Coherent (at_in lines) mem.words truth)
+    {o : Outcome} (d : Done m ps lines locks mem q o) (e : line_of m lines q.processor (q.address / 4) ≡ None) where
   abbrev block : ℕ
   block = q.address / 4
 
@@ -56,20 +54,11 @@ module _ (m : Measures) (some_columns : 0 < m.columns) (some_ways : 0 < m.ways) 
   abbrev acting : Action
   acting = action_of m ps lines locks mem q
 
-  abbrev elsewhere : Bool
-  elsewhere = is_some (supplier_of m lines q.processor block)
-
   abbrev pub left : State
-  left = state_left d.effect d.supply.from
+  left = made_state d
 
   abbrev pub own : Line
-  own = own_line q.command q.address d.supply.words left
-
-  pub own_named : valid own.state ≡ true → own.block ≡ block
-  own_named v =
-      ap (λ x. x.block)
-      (in_state_valid (record { state = left; block = block; words = words_left q.command q.address d.supply.words }) left
-      (valid_in_state (record { state = left; block = block; words = words_left q.command q.address d.supply.words }) left v))
+  own = made_line d
 
   found_is : found m ps lines locks mem q ≡ I
   found_is = ap (λ p. (line_at lines p).state) e
@@ -88,11 +77,8 @@ module _ (m : Measures) (some_columns : 0 < m.columns) (some_ways : 0 < m.ways) 
     by_memory : left ≡ d.effect.from_memory → d.supply.words ≡ truth block → ((i : ℕ) → copy (at_in lines) block i → ⊥) → Supplied
 
   supplied_so : asks_for_block bus ≡ true → Supplied
-  supplied_so asks = by_copy (supplier_of m lines q.processor block) refl (sym (ap (λ b. cond b (supplied_by m lines mem block (supplier_of m lines q.processor block)) own_words) asks) ∙ d.given)
+  supplied_so asks = by_copy (supplier_of m lines q.processor block) refl (asked_supply d asks)
     where
-      own_words : Result Supply Refusal
-      own_words = Ok (record { words = (line_at lines (line_of m lines q.processor block)).words; from = None })
-
       by_memory_if : supplier_of m lines q.processor block ≡ None → (b : Bool)
           → ◌≡◌ {A = Result Supply Refusal} (cond b (Ok (record { words = mem.words block; from = Some Memory })) (Err (RefusedByMemory block Read))) (Ok d.supply)
           → Supplied
@@ -131,11 +117,11 @@ module _ (m : Measures) (some_columns : 0 < m.columns) (some_ways : 0 < m.ways) 
     base = without (at_in lines) k
 
     abbrev pub miss_at : ℕ → Line
-    miss_at = placed_at m some_columns lines fit homed q.processor block d.known bus k own own_named
+    miss_at = placed_at m some_columns lines fit homed q.processor block d.known bus k own (made_named d)
 
     pub moved : Moved m base miss_at block k q.processor bus own
     moved =
-        miss_moved m some_columns lines fit homed q.processor block d.known bus k own own_named
+        miss_moved m some_columns lines fit homed q.processor block d.known bus k own (made_named d)
         (way_home m some_columns some_ways lines fit q.processor block (get_or ps q.processor resting).turn d.known) e
 
     cell : MissCell acting d.effect
@@ -151,40 +137,25 @@ module _ (m : Measures) (some_columns : 0 < m.columns) (some_ways : 0 < m.ways) 
     base_copy i c = copy_fewer (at_in lines) base (without_fewer (at_in lines) k) block i c
 
     abbrev Alone : Type 0
-    Alone = Only m base miss_at block k q.processor bus own moved
+    Alone = Only moved
 
     alone_none : ((i : ℕ) → copy (at_in lines) block i → ⊥) → Alone
-    alone_none none = only_copy m base miss_at block k q.processor bus own moved (λ i c. absurd (none i (base_copy i c)))
+    alone_none none = only_copy moved (λ i c. absurd (none i (base_copy i c)))
 
     alone_fi : bus ≡ Some FI → Alone
-    alone_fi b = only_cleared m base miss_at block k q.processor bus own moved (ap clears b)
+    alone_fi b = only_cleared moved (ap clears b)
 
     pub miss_lock_only : takes_lock q.command ≡ true → Alone
-    miss_lock_only h = alone_fi (cell.locked_taking (acts_locks q.address (found m ps lines locks mem q) elsewhere q.command h))
+    miss_lock_only h = alone_fi (cell.locked_taking (takes_locked d h))
 
     back : ((i : ℕ) → copy (at_in lines) block i → ⊥) → base_words block ≡ truth block
     back none = base_coherent.clean block (λ i c. absurd (none i (base_copy i c)))
 
-    same_words : writes acting ≡ false → words_left q.command q.address d.supply.words ≡ d.supply.words
-    same_words = acts_writes q.address (found m ps lines locks mem q) elsewhere q.command d.supply.words
-
-    purging_is : (b : Bool) → drops acting ≡ b → purging q.command q.address ≡ b
-    purging_is b h = sym (acts_drops q.address (found m ps lines locks mem q) elsewhere q.command) ∙ h
-
-    fresh_is : fresh q.command q.address ≡ is_direct_write acting
-    fresh_is = sym (acts_fresh q.address (found m ps lines locks mem q) elsewhere q.command)
-
-    miss_here : k ≡ k → copy base block k → ⊥
-    miss_here same c = false≢true (sym (without_here) ∙ c)
-      where
-        without_here : holds_block block (base k) ≡ false
-        without_here = elim (eqb_tells k k) [
-          | inl here ↦ ap (λ b. holds_block block (cond b blank_line (at_in lines k))) here.0
-          | inr else ↦ absurd (else.1 refl)
-        ]
+    miss_here : copy base block k → ⊥
+    miss_here c = false≢true (sym (ap (holds_block block) (without_here (at_in lines) k)) ∙ c)
 
     abbrev MissKind : Type 0
-    MissKind = Kind m base miss_at k q.processor bus q.command q.address d.supply.words left moved base_words truth base_coherent
+    MissKind = Kind q.command q.address d.supply.words left moved base_coherent
 
     words_by : Supplied → d.supply.words ≡ truth block
     words_by (by_cache l w) = w
@@ -196,15 +167,13 @@ module _ (m : Measures) (some_columns : 0 < m.columns) (some_ways : 0 < m.ways) 
       words : fresh q.command q.address ≡ false → d.supply.words ≡ truth block
 
     unasked_memory : bus ≡ None → left ≡ d.effect.from_memory
-    unasked_memory b =
-        let given : ◌≡◌ {A = Result Supply Refusal} (Ok (record { words = (line_at lines (line_of m lines q.processor block)).words; from = None })) (Ok d.supply) =
-        sym (ap (λ x. cond (asks_for_block x) (supplied_by m lines mem block (supplier_of m lines q.processor block))
-        (Ok (record { words = (line_at lines (line_of m lines q.processor block)).words; from = None }))) b) ∙ d.given in
-        ap (λ x. state_left d.effect x.from) (sym (ok_same (record { words = (line_at lines (line_of m lines q.processor block)).words; from = None }) d.supply given))
+    unasked_memory b = ap (λ x. state_left d.effect x.from) (unasked_supply d (ap asks_for_block b))
 
-    -- refusal 9 kept a DW from a block that another cache has
+    -- a DW of a block that another cache has was refused
     made_alone : is_direct_write acting ≡ true → (i : ℕ) → copy (at_in lines) block i → ⊥
-    made_alone h = none_there (by_some (supplier_of m lines q.processor block) (or_parts _ _ (by_bools (is_direct_write acting) (valid (found m ps lines locks mem q)) _ h (ap valid found_is) d.alone)).0)
+    made_alone h =
+        let nowhere = by_bools (is_direct_write acting) (valid (found m ps lines locks mem q)) _ h (ap valid found_is) d.alone in
+        none_there (by_some (supplier_of m lines q.processor block) (or_parts _ _ nowhere).0)
       where
         by_bools : (w v r : Bool) → w ≡ true → v ≡ false → (w && not v && r) ≡ false → r ≡ false
         by_bools true false r f g x = x
@@ -220,28 +189,28 @@ module _ (m : Measures) (some_columns : 0 < m.columns) (some_ways : 0 < m.ways) 
       where
         by_reads : bus ≡ Some F → d.effect.from_cache ≡ S → d.effect.from_memory ≡ EC → writes acting ≡ false → drops acting ≡ false → Supplied → MissKind
         by_reads f s ec w dr (by_cache l ws) =
-            left_s f (l ∙ s) (same_words w) (purging_is false dr) (fresh_is ∙ unwritten acting w) (λ i c same. miss_here refl (subst (λ x. copy base block x) same c))
+            left_s f (l ∙ s) (same_words d w) (purging_is d false dr) (stale_by d w) (λ i c same. miss_here (subst (λ x. copy base block x) same c))
         by_reads f s ec w dr (by_memory l ws none) =
-            left_ec (alone_none none) (l ∙ ec) (same_words w) (purging_is false dr) (fresh_is ∙ unwritten acting w) (back none)
+            left_ec (alone_none none) (l ∙ ec) (same_words d w) (purging_is d false dr) (stale_by d w) (back none)
 
         by_takes : bus ≡ Some FI → d.effect.from_cache ≡ EM → (d.effect.from_memory ≡ EM) ⊎ ((d.effect.from_memory ≡ EC) × (writes acting ≡ false))
             → drops acting ≡ false → Supplied → MissKind
-        by_takes f em which dr (by_cache l ws) = left_em (alone_fi f) (l ∙ em) (purging_is false dr)
-        by_takes f em (inl m) dr (by_memory l ws none) = left_em (alone_fi f) (l ∙ m) (purging_is false dr)
+        by_takes f em which dr (by_cache l ws) = left_em (alone_fi f) (l ∙ em) (purging_is d false dr)
+        by_takes f em (inl same) dr (by_memory l ws none) = left_em (alone_fi f) (l ∙ same) (purging_is d false dr)
         by_takes f em (inr ec) dr (by_memory l ws none) =
-            left_ec (alone_fi f) (l ∙ ec.0) (same_words ec.1) (purging_is false dr) (fresh_is ∙ unwritten acting ec.1) (back none)
+            left_ec (alone_fi f) (l ∙ ec.0) (same_words d ec.1) (purging_is d false dr) (stale_by d ec.1) (back none)
 
         by_purges : bus ≡ Some FI → d.effect.from_cache ≡ I → d.effect.from_memory ≡ I → drops acting ≡ true → Supplied → MissKind
-        by_purges f c i dr (by_cache l ws) = left_i (alone_fi f) (l ∙ c) (purging_is true dr)
-        by_purges f c i dr (by_memory l ws none) = left_i (alone_fi f) (l ∙ i) (purging_is true dr)
+        by_purges f c i dr (by_cache l ws) = left_i (alone_fi f) (l ∙ c) (purging_is d true dr)
+        by_purges f c i dr (by_memory l ws none) = left_i (alone_fi f) (l ∙ i) (purging_is d true dr)
 
         by_miss : Miss acting d.effect → Left
         by_miss (reads_shared f s ec w dr) = let given = supplied_so (ap asks_for_block f) in record { kind = by_reads f s ec w dr given; words = λ h. words_by given }
         by_miss (takes f em which dr) = let given = supplied_so (ap asks_for_block f) in record { kind = by_takes f em which dr given; words = λ h. words_by given }
         by_miss (purges f c i dr) = let given = supplied_so (ap asks_for_block f) in record { kind = by_purges f c i dr given; words = λ h. words_by given }
         by_miss (makes n w em dr) = record {
-          kind = left_em (alone_none (made_alone w)) (unasked_memory n ∙ em) (purging_is false dr);
-          words = λ h. absurd (false≢true (sym h ∙ fresh_is ∙ w));
+          kind = left_em (alone_none (made_alone w)) (unasked_memory n ∙ em) (purging_is d false dr);
+          words = λ h. absurd (false≢true (sym h ∙ fresh_made d ∙ w));
         }
 
     pub miss_kind : MissKind

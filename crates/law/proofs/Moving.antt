@@ -1,124 +1,17 @@
--- The lines before and after a done command, by their places: one place gets the command's own copy, other copies of the
--- block hear the bus command, all else stays.
-use Rattle.std.proofs.Common.{◌≡◌, ℕ, Bool, true, false, cond, ◌&&◌, eqb, leb, List, Some, None, Option, sym, refl, ap, ◌∙◌, subst, inl, inr, arith}
-use Rattle.std.proofs.lemmas.Bool.{and_parts, false≢true}
-use Rattle.std.proofs.lemmas.Bool.Decides.{eqb_tells, nat_tests}
+-- The lines before and after a done command, by their places.
+use Rattle.std.proofs.Common.{◌≡◌, ℕ, Bool, true, false, cond, eqb, List, Option, sym, refl, ap, ◌∙◌, subst, inl, inr}
+use Rattle.std.proofs.lemmas.Bool.Decides.{eqb_tells}
 use Rattle.protocol.specs.declared.command.BusCommand.{BusCommand}
-use Rattle.protocol.specs.declared.command.BusCommand.TheVariants.{F, FI, I as bus_i}
 use Rattle.protocol.specs.declared.line.Line.{Line}
 use Rattle.protocol.specs.declared.measures.Measures.{Measures}
-use Rattle.protocol.specs.declared.state.State.{State}
-use Rattle.protocol.specs.declared.state.State.TheVariants.{I, S, SM, EC, EM}
 use Rattle.protocol.specs.Entries.{valid, modified}
-use Rattle.protocol.specs.Lines.{blank_line, in_state}
-use Rattle.protocol.specs.StateTable.{snooped}
 use Rattle.cluster.specs.Copies.{holds_block}
 use Rattle.law.specs.Law.{exclusive, owner}
+use Rattle.law.proofs.Copied.{copy_valid, copy_block, copy_from}
+use Rattle.law.proofs.Hearing.{heard, heard_copy}
 use Rattle.law.proofs.Invariant.{copy, Coherent, Home, Homed}
 
--- what a copy of the block becomes where the bus command is heard
-abbrev pub heard : Option BusCommand → Line → Line
-heard None line = line
-heard (Some bus) line = in_state line (snooped bus line.state)
-
--- a copy is valid, and its number is the block
-pub copy_valid : (block : ℕ) (line : Line) → holds_block block line ≡ true → valid line.state ≡ true
-copy_valid block line h = (and_parts _ _ (and_parts _ _ h).0).0
-
-pub copy_block : (block : ℕ) (line : Line) → holds_block block line ≡ true → line.block ≡ block
-copy_block block line h =
-    let part = and_parts (valid line.state && leb block line.block) (leb line.block block) h in
-    let to : leb line.block block ≡ true = part.1 in
-    let from : leb block line.block ≡ true = (and_parts (valid line.state) (leb block line.block) part.0).1 in
-    grind (arith, nat_tests)
-
-pub copy_from : (block : ℕ) (line : Line) → valid line.state ≡ true → line.block ≡ block → holds_block block line ≡ true
-copy_from block line h e = rw h (grind (arith, nat_tests, e))
-
--- a modified line is valid, and an exclusive one too
-pub modified_valid : (s : State) → modified s ≡ true → valid s ≡ true
-modified_valid I h = absurd (cc)
-modified_valid S h = refl
-modified_valid SM h = refl
-modified_valid EC h = refl
-modified_valid EM h = refl
-
-snooped_valid : (bus : BusCommand) (s : State) → valid (snooped bus s) ≡ true → valid s ≡ true
-snooped_valid F I h = h
-snooped_valid FI I h = h
-snooped_valid bus_i I h = h
-snooped_valid bus S h = refl
-snooped_valid bus SM h = refl
-snooped_valid bus EC h = refl
-snooped_valid bus EM h = refl
-
-pub valid_in_state : (line : Line) (s : State) → valid (in_state line s).state ≡ true → valid s ≡ true
-valid_in_state line s h = by_valid (valid s) refl h
-  where
-    by_valid : (b : Bool) → valid s ≡ b → valid (cond b (record { state = s; block = line.block; words = line.words }) blank_line).state ≡ true → valid s ≡ true
-    by_valid true e h = e
-    by_valid false e h = absurd (cc)
-
-pub in_state_valid : (line : Line) (s : State) → valid s ≡ true → in_state line s ≡ record { state = s; block = line.block; words = line.words }
-in_state_valid line s h = rw h refl
-
-pub heard_copy : (bus : Option BusCommand) (line : Line) (b : ℕ) → holds_block b (heard bus line) ≡ true → holds_block b line ≡ true
-heard_copy None line b h = h
-heard_copy (Some bus) line b h =
-    let now = valid_in_state line (snooped bus line.state) (copy_valid b (heard (Some bus) line) h) in
-    let same = in_state_valid line (snooped bus line.state) now in
-    copy_from b line (snooped_valid bus line.state now) (ap (λ x. x.block) (sym same) ∙ copy_block b (heard (Some bus) line) h)
-
--- F keeps what is valid and modified, and leaves nothing exclusive
-pub f_valid : (s : State) → valid (snooped F s) ≡ valid s
-f_valid I = refl
-f_valid S = refl
-f_valid SM = refl
-f_valid EC = refl
-f_valid EM = refl
-
-pub f_modified : (s : State) → modified (snooped F s) ≡ modified s
-f_modified I = refl
-f_modified S = refl
-f_modified SM = refl
-f_modified EC = refl
-f_modified EM = refl
-
-pub f_shares : (s : State) → exclusive (snooped F s) ≡ false
-f_shares I = refl
-f_shares S = refl
-f_shares SM = refl
-f_shares EC = refl
-f_shares EM = refl
-
-pub heard_f : (line : Line) → valid line.state ≡ true → heard (Some F) line ≡ record { state = snooped F line.state; block = line.block; words = line.words }
-heard_f line h = in_state_valid line (snooped F line.state) (f_valid line.state ∙ h)
-
--- FI and I leave no copy
-abbrev pub clears : Option BusCommand → Bool
-clears None = false
-clears (Some F) = false
-clears (Some FI) = true
-clears (Some bus_i) = true
-
-none_left : (bus : BusCommand) (s : State) → clears (Some bus) ≡ true → valid (snooped bus s) ≡ false
-none_left F s h = absurd (cc)
-none_left FI I h = refl
-none_left FI S h = refl
-none_left FI SM h = refl
-none_left FI EC h = refl
-none_left FI EM h = refl
-none_left bus_i I h = refl
-none_left bus_i S h = refl
-none_left bus_i SM h = refl
-none_left bus_i EC h = refl
-none_left bus_i EM h = refl
-
-pub cleared : (bus : Option BusCommand) (line : Line) (b : ℕ) → clears bus ≡ true → holds_block b (heard bus line) ≡ true → ⊥
-cleared None line b h c = cc
-cleared (Some bus) line b h c =
-    false≢true (sym (none_left bus line.state h) ∙ valid_in_state line (snooped bus line.state) (copy_valid b (heard (Some bus) line) c))
-
+-- one place gets the command's own copy, other copies of the block hear the bus command, all else stays
 pub record Moved (m : Measures) (at after : ℕ → Line) (block k asking : ℕ) (bus : Option BusCommand) (own : Line) : Type 0 where
   pub place : after k ≡ own
   pub named : valid own.state ≡ true → own.block ≡ block
@@ -128,7 +21,7 @@ pub record Moved (m : Measures) (at after : ℕ → Line) (block k asking : ℕ)
   pub mine : (i : ℕ) → copy at block i → owner m i ≡ asking → i ≡ k
   pub others : (i : ℕ) → (i ≡ k → ⊥) → after i ≡ cond (holds_block block (at i)) (heard bus (at i)) (at i)
 
-module _ (m : Measures) (at after : ℕ → Line) (block k asking : ℕ) (bus : Option BusCommand) (own : Line) (moved : Moved m at after block k asking bus own) where
+module _ {m : Measures} {at after : ℕ → Line} {block k asking : ℕ} {bus : Option BusCommand} {own : Line} (moved : Moved m at after block k asking bus own) where
   -- another line after the command
   pub data Other (i : ℕ) : Type 0 where
     heard_it : holds_block block (at i) ≡ true → after i ≡ heard bus (at i) → Other i
@@ -150,13 +43,13 @@ module _ (m : Measures) (at after : ℕ → Line) (block k asking : ℕ) (bus : 
       by_other (stayed was is) = subst (λ x. holds_block b x ≡ true) is c
 
   -- the copy at the place is one of the block
-  pub own_copy : (b : ℕ) → copy after b k → b ≡ block
+  own_copy : (b : ℕ) → copy after b k → b ≡ block
   own_copy b c =
       let here : holds_block b own ≡ true = subst (λ x. holds_block b x ≡ true) moved.place c in
       sym (copy_block b own here) ∙ moved.named (copy_valid b own here)
 
   -- other blocks' lines are as they were
-  pub same_before : (b i : ℕ) → (b ≡ block → ⊥) → copy at b i → after i ≡ at i
+  same_before : (b i : ℕ) → (b ≡ block → ⊥) → copy at b i → after i ≡ at i
   same_before b i else c = elim (eqb_tells i k) [
     | inl same ↦ absurd (else (moved.here b (subst (λ x. copy at b x) same.1 c)))
     | inr far ↦ by_other (other i far.1)
@@ -206,13 +99,13 @@ module _ (m : Measures) (at after : ℕ → Line) (block k asking : ℕ) (bus : 
   truth_after words truth b = cond (eqb b block) words (truth b)
 
   -- what is coherent of other blocks stays so, whatever becomes of the block itself
-  pub coherent_after : (mem truth : ℕ → List ℕ) (words : List ℕ) → Coherent at mem truth
+  pub coherent_after : {mem truth : ℕ → List ℕ} (words : List ℕ) → Coherent at mem truth
       → ((i j : ℕ) → copy after block i → copy after block j → exclusive (after i).state ≡ true → j ≡ i)
       → ((i j : ℕ) → copy after block i → copy after block j → modified (after i).state ≡ true → modified (after j).state ≡ true → j ≡ i)
       → ((i : ℕ) → copy after block i → (after i).words ≡ words)
       → (((i : ℕ) → copy after block i → modified (after i).state ≡ false) → mem block ≡ words)
       → Coherent after mem (truth_after words truth)
-  coherent_after mem truth words c alone single agree clean = record {
+  coherent_after {mem = mem} words c alone single agree clean = record {
     alone = λ b i j ci cj x. elim (eqb_tells b block) [
       | inl same ↦ alone i j (subst (λ y. copy after y i) same.1 ci) (subst (λ y. copy after y j) same.1 cj) x
       | inr else ↦

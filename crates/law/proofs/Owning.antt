@@ -11,15 +11,17 @@ use Rattle.protocol.specs.Entries.{valid, modified}
 use Rattle.protocol.specs.StateTable.{snooped}
 use Rattle.cluster.specs.Copies.{holds_block}
 use Rattle.law.specs.Law.{exclusive}
+use Rattle.law.proofs.Copied.{copy_valid, copy_block, copy_from}
+use Rattle.law.proofs.Hearing.{heard, clears, cleared, heard_f, f_valid, f_modified, f_shares}
 use Rattle.law.proofs.Invariant.{copy, Coherent}
-use Rattle.law.proofs.Moving.{Moved, Other, heard_it, stayed, other, coherent_after, truth_after, clears, cleared, heard, heard_f, copy_valid, copy_block, copy_from, f_valid, f_modified, f_shares}
+use Rattle.law.proofs.Moving.{Moved, Other, heard_it, stayed, other, coherent_after, truth_after}
 
-module _ (m : Measures) (at after : ℕ → Line) (block k asking : ℕ) (bus : Option BusCommand) (own : Line) (moved : Moved m at after block k asking bus own) where
+module _ {m : Measures} {at after : ℕ → Line} {block k asking : ℕ} {bus : Option BusCommand} {own : Line} (moved : Moved m at after block k asking bus own) where
   -- a copy of the block that stands elsewhere has heard the bus command
   heard_there : (i : ℕ) → (i ≡ k → ⊥) → copy after block i → copy at block i × (after i ≡ heard bus (at i))
-  heard_there i far c = by_other (other m at after block k asking bus own moved i far)
+  heard_there i far c = by_other (other moved i far)
     where
-      by_other : Other m at after block k asking bus own moved i → copy at block i × (after i ≡ heard bus (at i))
+      by_other : Other moved i → copy at block i × (after i ≡ heard bus (at i))
       by_other (heard_it was is) = (was, is)
       by_other (stayed was is) = absurd (false≢true (sym was ∙ ap (holds_block block) (sym is) ∙ c))
 
@@ -39,7 +41,7 @@ module _ (m : Measures) (at after : ℕ → Line) (block k asking : ℕ) (bus : 
   pub only_copy : ((i : ℕ) → copy at block i → i ≡ k) → Only
   only_copy h = only_by (λ i far c. far (h i (heard_there i far c).0))
 
-  module _ (mem truth : ℕ → List ℕ) (c : Coherent at mem truth) where
+  module _ {mem truth : ℕ → List ℕ} (c : Coherent at mem truth) where
     pub only_exclusive : copy at block k → exclusive (at k).state ≡ true → Only
     only_exclusive ck x = only_copy (λ i ci. c.alone block k i ck ci x)
 
@@ -48,9 +50,9 @@ module _ (m : Measures) (at after : ℕ → Line) (block k asking : ℕ) (bus : 
 
     pub owns : Only → (words : List ℕ) → (valid own.state ≡ true → own.words ≡ words)
         → ((valid own.state ≡ true → modified own.state ≡ false) → mem block ≡ words)
-        → Coherent after mem (truth_after m at after block k asking bus own moved words truth)
+        → Coherent after mem (truth_after moved words truth)
     owns only words has back =
-        coherent_after m at after block k asking bus own moved mem truth words c
+        coherent_after moved words c
         (λ i j ci cj x. only j cj ∙ sym (only i ci))
         (λ i j ci cj x y. only j cj ∙ sym (only i ci))
         (λ i ci. let is = own_state i (only i ci) in ap (λ x. x.words) is ∙ has (ap (λ x. valid x.state) (sym is) ∙ copy_valid block (after i) ci))
@@ -63,9 +65,9 @@ module _ (m : Measures) (at after : ℕ → Line) (block k asking : ℕ) (bus : 
 
     -- F, and another cache supplies the block
     pub shares : bus ≡ Some F → own.state ≡ S → own.words ≡ truth block → ((i : ℕ) → copy at block i → i ≡ k → ⊥)
-        → Coherent after mem (truth_after m at after block k asking bus own moved (truth block) truth)
+        → Coherent after mem (truth_after moved (truth block) truth)
     shares f s has miss =
-        coherent_after m at after block k asking bus own moved mem truth (truth block) c
+        coherent_after moved (truth block) c
         (λ i j ci cj x. absurd (false≢true (sym (none_exclusive i ci) ∙ x)))
         (λ i j ci cj x y. c.single block i j (was i ci x) (was j cj y) (was_modified i ci x) (was_modified j cj y))
         (λ i ci. elim (eqb_tells i k) [
@@ -99,9 +101,9 @@ module _ (m : Measures) (at after : ℕ → Line) (block k asking : ℕ) (bus : 
 
         -- each copy there was is a copy still
         sharer : (i : ℕ) → copy at block i → after i ≡ after_f i
-        sharer i ci = by_other (other m at after block k asking bus own moved i (miss i ci))
+        sharer i ci = by_other (other moved i (miss i ci))
           where
-            by_other : Other m at after block k asking bus own moved i → after i ≡ after_f i
+            by_other : Other moved i → after i ≡ after_f i
             by_other (heard_it w is) = is ∙ ap (λ b. heard b (at i)) f ∙ heard_f (at i) (copy_valid block (at i) ci)
             by_other (stayed w is) = absurd (false≢true (sym w ∙ ci))
 

@@ -1,44 +1,16 @@
 -- Places of a table of lines: whose they are, where a search lands, what it tells if it finds nothing.
-use Rattle.std.proofs.Common.{◌≡◌, ℕ, suc, ◌+◌, ◌-◌, ◌*◌, ◌%◌, ◌<◌, ◌≤◌, Bool, true, false, cond, not, ◌&&◌, ◌⊎◌, eqb, ltb, leb, List, length, get_or, drop, is_some, Some, None, Option, sym, refl, ap, subst, ◌∙◌, inl, inr, mul-le-mul_right, suc-mul, arith}
+use Rattle.std.proofs.Common.{◌≡◌, ℕ, suc, ◌+◌, ◌*◌, ◌%◌, ◌<◌, ◌≤◌, true, List, length, is_some, Some, None, Option, sym, refl, ap, subst, mul-le-mul_right, suc-mul, arith}
 use Rattle.std.proofs.Math.Nat.{mul_assoc, div-eq_of_lt-le, mod-lt}
-use Rattle.std.specs.List.{position_or_len}
-use Rattle.std.proofs.lemmas.Bool.{false≢true, eq-eqb}
-use Rattle.std.proofs.lemmas.Bool.Decides.{eqb_tells, nat_tests}
-use Rattle.std.proofs.lemmas.List.{get_or-take, get_or-drop}
-use Rattle.std.proofs.lemmas.List.Sums.{fails_before_first}
 use Rattle.protocol.specs.declared.line.Line.{Line}
 use Rattle.protocol.specs.declared.measures.Measures.{Measures}
-use Rattle.protocol.specs.Entries.{valid}
-use Rattle.protocol.specs.Finding.{first_in, window_of}
 use Rattle.protocol.specs.Lines.{no_line}
 use Rattle.protocol.specs.Places.{line_count, window_start}
-use Rattle.protocol.proofs.Finding.{first_from, Lowest, lowest_tells}
-use Rattle.cluster.specs.Copies.{holds_block, line_of, other_copy, supplier_of}
+use Rattle.cluster.specs.Copies.{holds_block, line_of, has_copy, supplier_of}
 use Rattle.law.specs.Law.{owner}
+use Rattle.law.proofs.Copied.{copy_valid, copy_block}
 use Rattle.law.proofs.Invariant.{at_in, copy, Home, Homed}
-use Rattle.law.proofs.Windows.{first_at, length-window}
-
--- what a copy tells of its line
-pub copy_tells : (block : ℕ) (line : Line) → holds_block block line ≡ true → (valid line.state ≡ true) × (line.block ≡ block)
-copy_tells block line h = by_valid (valid line.state) h
-  where
-    by_valid : (v : Bool) → (v && leb block line.block && leb line.block block) ≡ true → (v ≡ true) × (line.block ≡ block)
-    by_valid true h = (refl, grind (arith, nat_tests))
-    by_valid false h = absurd (cc)
-
-pub at_window : {X : Type 0} (xs : List X) (s n j : ℕ) (d : X) → j < n → get_or (window_of s n xs) j d ≡ get_or xs (s + j) d
-at_window xs s n j d low = get_or-take n (drop s xs) j d low ∙ get_or-drop s xs j d
-
--- a search that finds nothing
-pub none_at : {X : Type 0} (test : X → Bool) (at : ℕ) (xs : List X) (d : X) → first_in test at xs ≡ None → (k : ℕ) → k < length xs → test (get_or xs k d) ≡ false
-none_at test at xs d e k low = fails_before_first test xs k d (let long = past in omega (arith, long, low))
-  where
-    by_test : (b : Bool) → cond b (Some (at + position_or_len test xs)) None ≡ None → b ≡ false
-    by_test true h = absurd (cc)
-    by_test false h = refl
-
-    past : length xs ≤ position_or_len test xs
-    past = let none = by_test (ltb (position_or_len test xs) (length xs)) (sym (first_from test at xs) ∙ e) in grind (arith, nat_tests)
+use Rattle.law.proofs.Lowest.{the_some, other_found, none_other}
+use Rattle.law.proofs.Windows.{stands, none_stands}
 
 -- the copy that a cache's search found
 pub record FoundAt (m : Measures) (lines : List Line) (p block i : ℕ) : Type 0 where
@@ -95,69 +67,36 @@ module _ (m : Measures) (some_columns : 0 < m.columns) where
         let same = mul_assoc m.processors m.columns m.ways in
         omega (arith, to, up, same, fit, high)
 
-    pub room_of : (p block : ℕ) → p < m.processors → length (window_of (window_start m p block) m.ways lines) ≡ m.ways
-    room_of p block listed =
-        let to = window_to p block in
-        let up : suc p * (m.columns * m.ways) ≤ m.processors * (m.columns * m.ways) = mul-le-mul_right (m.columns * m.ways) listed in
-        let same = mul_assoc m.processors m.columns m.ways in
-        length-window lines (window_start m p block) m.ways (omega (arith, to, up, same, fit))
-
     module _ (homed : Homed m (at_in lines)) where
       -- a copy stands in its block's window in its owner's cache
       pub copy_home : (block i : ℕ) → copy (at_in lines) block i → Home m block i
-      copy_home block i h =
-          let tells = copy_tells block (at_in lines i) h in subst (λ b. Home m b i) tells.1 (homed.home i tells.0)
+      copy_home block i h = subst (λ b. Home m b i) (copy_block block (at_in lines i) h) (homed.home i (copy_valid block (at_in lines i) h))
 
       pub found_at : (p block i : ℕ) → p < m.processors → line_of m lines p block ≡ Some i → FoundAt m lines p block i
       found_at p block i listed e =
-          let s = window_start m p block in
-          let found = first_at (holds_block block) s (window_of s m.ways lines) no_line i e in
-          let long = room_of p block listed in
-          let low : found.index < m.ways = (let inside = found.inside in omega (arith, inside, long)) in
-          let is = found.is in
-          let owned = owner_in p block i (omega (arith, is)) (omega (arith, is, low)) in
-          let here = ap (λ k. holds_block block (get_or lines k no_line)) is ∙ ap (holds_block block) (sym (at_window lines s m.ways found.index no_line low)) ∙ found.passes in
-          record { copied = here; owned = owned; home = copy_home block i here }
+          let found = stands (holds_block block) lines (window_start m p block) m.ways no_line i e in
+          record { copied = found.passes; owned = owner_in p block i found.from found.to; home = copy_home block i found.passes }
 
       pub found_none : (p block : ℕ) → p < m.processors → line_of m lines p block ≡ None → (i : ℕ) → copy (at_in lines) block i → owner m i ≡ p → ⊥
       found_none p block listed e i here owned =
-          let s = window_start m p block in
-          let home = subst (λ o. (window_start m o block ≤ i) × (i < window_start m o block + m.ways)) owned (let h = copy_home block i here in (h.from, h.to)) in
-          let from = home.0 in
-          let to = home.1 in
-          let low : i - s < m.ways = omega (arith, from, to) in
-          let long = room_of p block listed in
-          let at : s + (i - s) ≡ i = omega (arith, from) in
-          let none = none_at (holds_block block) s (window_of s m.ways lines) no_line e (i - s) (omega (arith, low, long)) in
-          false≢true (sym none ∙ ap (holds_block block) (at_window lines s m.ways (i - s) no_line low) ∙ ap (λ k. holds_block block (get_or lines k no_line)) at ∙ here)
+          let home = copy_home block i here in
+          let (from, to) = subst (λ o. (window_start m o block ≤ i) × (i < window_start m o block + m.ways)) owned (home.from, home.to) in
+          none_stands (holds_block block) lines (window_start m p block) m.ways no_line e i
+          (record { from = from; to = to; inside = window_inside_table p block i listed to; passes = here })
 
       pub supplier_some : (asking block p : ℕ) → supplier_of m lines asking block ≡ Some p → Supplying m lines asking block p
       supplier_some asking block p e =
-          let found = subst (Lowest (other_copy m lines asking block) 0 m.processors) e (lowest_tells (other_copy m lines asking block) m.processors 0) in
-          let both = other_tells (eqb p asking) (line_of m lines p block) found.2 in
-          record {
-            listed = let low = found.1 in omega (arith, low);
-            other = λ same. false≢true (sym both.0 ∙ eq-eqb p asking same);
-            place = both.1;
-            found = both.2;
-          }
-        where
-          other_tells : (b : Bool) (o : Option ℕ) → (not b && is_some o) ≡ true → (b ≡ false) × (i : ℕ) × (o ≡ Some i)
-          other_tells true o h = absurd (cc)
-          other_tells false None h = absurd (cc)
-          other_tells false (Some i) h = (refl, i, refl)
+          let found = other_found (has_copy m lines block) asking m.processors p e in
+          let (place, at) = the_some (line_of m lines p block) found.2 in
+          record { listed = found.0; other = found.1; place = place; found = at }
 
       pub supplier_none : (asking block : ℕ) → supplier_of m lines asking block ≡ None → (i : ℕ) → copy (at_in lines) block i → owner m i ≡ asking
       supplier_none asking block e i here =
-          let none = subst (Lowest (other_copy m lines asking block) 0 m.processors) e (lowest_tells (other_copy m lines asking block) m.processors 0) in
-          let home = copy_home block i here in
-          let listed = home.listed in
-          let fails = none (owner m i) (omega arith) (omega (arith, listed)) in
-          by_asking (eqb_tells (owner m i) asking) (line_of m lines (owner m i) block) refl fails
+          none_other (has_copy m lines block) asking m.processors (ap is_some e) (owner m i) home.listed (by_place (line_of m lines (owner m i) block) refl)
         where
-          by_asking : ((eqb (owner m i) asking ≡ true) × (owner m i ≡ asking)) ⊎ ((eqb (owner m i) asking ≡ false) × (owner m i ≡ asking → ⊥))
-              → (o : Option ℕ) → line_of m lines (owner m i) block ≡ o → (not (eqb (owner m i) asking) && is_some o) ≡ false → owner m i ≡ asking
-          by_asking (inl same) o is h = same.1
-          by_asking (inr other) None is h =
-              absurd (found_none (owner m i) block (let home = copy_home block i here in home.listed) is i here refl)
-          by_asking (inr other) (Some place) is h = absurd (false≢true (sym h ∙ ap (λ b. not b && true) other.0))
+          home : Home m block i
+          home = copy_home block i here
+
+          by_place : (o : Option ℕ) → line_of m lines (owner m i) block ≡ o → is_some o ≡ true
+          by_place None is = absurd (found_none (owner m i) block home.listed is i here refl)
+          by_place (Some place) is = refl

@@ -7,15 +7,17 @@ use Rattle.protocol.specs.declared.command.BusCommand.{BusCommand}
 use Rattle.protocol.specs.declared.line.Line.{Line}
 use Rattle.protocol.specs.declared.measures.Measures.{Measures}
 use Rattle.protocol.specs.Entries.{valid}
-use Rattle.protocol.specs.Lines.{no_line, blank_line}
+use Rattle.protocol.specs.Lines.{no_line}
 use Rattle.protocol.specs.Places.{line_count}
 use Rattle.cluster.specs.Copies.{holds_block, line_of}
 use Rattle.cluster.specs.Finishing.{bus_seen}
 use Rattle.law.specs.Law.{owner}
+use Rattle.law.proofs.Copied.{copy_block}
+use Rattle.law.proofs.Hearing.{heard}
 use Rattle.law.proofs.Invariant.{at_in, copy, Homed}
-use Rattle.law.proofs.Moving.{Moved, heard, copy_block}
+use Rattle.law.proofs.Moving.{Moved}
 use Rattle.law.proofs.Places.{found_at, found_none, window_inside_table}
-use Rattle.law.proofs.Replacing.{without, without_fewer, copy_fewer}
+use Rattle.law.proofs.Replacing.{without, without_here, without_elsewhere, without_fewer, copy_fewer}
 use Rattle.law.proofs.Snooped.{snooped_at_places, length_others_snooped}
 use Rattle.law.proofs.Taking.{WayHome}
 
@@ -90,24 +92,12 @@ module _ (m : Measures) (some_columns : 0 < m.columns) (lines : List Line) (fit 
       named = named;
       owned = way.owned;
       home = way.home;
-      here = λ b c. absurd (false≢true (sym (ap (holds_block b) gone) ∙ c));
+      here = λ b c. absurd (false≢true (sym (ap (holds_block b) (without_here (at_in lines) k)) ∙ c));
       mine = λ i c o. absurd (none i (copy_fewer (at_in lines) (without (at_in lines) k) (without_fewer (at_in lines) k) block i c) o);
       others = λ i far.
-          let stays = elsewhere i far in
+          let stays = without_elsewhere (at_in lines) k i far in
           put_elsewhere i far ∙ seen_at i (none i) ∙ ap (λ x. cond (holds_block block x) (heard bus x) x) (sym stays);
     }
       where
         none : (i : ℕ) → copy (at_in lines) block i → owner m i ≡ p → ⊥
         none = found_none m some_columns lines fit homed p block listed e
-
-        gone : without (at_in lines) k k ≡ blank_line
-        gone = elim (eqb_tells k k) [
-          | inl same ↦ ap (λ b. cond b blank_line (at_in lines k)) same.0
-          | inr other ↦ absurd (other.1 refl)
-        ]
-
-        elsewhere : (i : ℕ) → (i ≡ k → ⊥) → without (at_in lines) k i ≡ at_in lines i
-        elsewhere i far = elim (eqb_tells i k) [
-          | inl same ↦ absurd (far same.1)
-          | inr other ↦ ap (λ b. cond b blank_line (at_in lines i)) other.0
-        ]

@@ -1,65 +1,35 @@
 -- A line becomes I, and a modified one goes to memory: what is kept of the lines by their places.
-use Rattle.std.proofs.Common.{◌≡◌, ℕ, ◌<◌, Bool, true, false, cond, ◌&&◌, eqb, leb, List, length, set, Some, None, Ok, Err, Option, sym, refl, ap, subst, ◌∙◌, inl, inr, arith, get_or-set_same, get_or-set_other}
-use Rattle.std.proofs.lemmas.Bool.{false≢true, eqb-true}
-use Rattle.std.proofs.lemmas.Bool.Decides.{eqb_tells, nat_tests}
+use Rattle.std.proofs.Common.{◌≡◌, ℕ, Bool, true, false, cond, ◌&&◌, eqb, List, length, Some, None, Ok, Err, Option, sym, refl, ap, subst, ◌∙◌, inl, inr}
+use Rattle.std.proofs.lemmas.Bool.{false≢true, eqb-true, eq-eqb, ne_eqb, and_parts, cond-true, cond-false, cond_both}
+use Rattle.std.proofs.lemmas.Bool.Decides.{eqb_tells}
 use Rattle.protocol.specs.declared.line.Line.{Line}
 use Rattle.protocol.specs.declared.measures.Measures.{Measures}
 use Rattle.protocol.specs.declared.refusal.Direction.TheVariants.{Write}
 use Rattle.protocol.specs.declared.refusal.Refusal.TheVariants.{Memory}
-use Rattle.protocol.specs.declared.state.State.{State}
-use Rattle.protocol.specs.declared.state.State.TheVariants.{I, S, SM, EC, EM}
 use Rattle.protocol.specs.Entries.{valid, modified}
-use Rattle.protocol.specs.Lines.{blank_line, no_line}
+use Rattle.protocol.specs.Lines.{blank_line}
 use Rattle.memory.specs.Meaning.{Mem, grants, written}
 use Rattle.cluster.specs.declared.ways.Taken.{Taken}
 use Rattle.cluster.specs.Copies.{holds_block}
 use Rattle.cluster.specs.Doing.{victim_of, swapped_out, memory_after}
 use Rattle.law.specs.Law.{exclusive}
 use Rattle.law.specs.Ledger.{Ledger, block_of}
-use Rattle.law.proofs.Invariant.{at_in, copy, Coherent, Home, Homed, HolderAlone}
+use Rattle.law.proofs.Copied.{copy_valid, copy_block, copy_from, modified_valid, homed_kept}
+use Rattle.law.proofs.Invariant.{at_in, copy, Coherent, Homed, HolderAlone}
 
 -- each line that is not I is the old one at its place
 abbrev pub Fewer : (ℕ → Line) → (ℕ → Line) → Type 0
 Fewer old new = (i : ℕ) → valid (new i).state ≡ true → new i ≡ old i
 
-pub copy_valid : (at : ℕ → Line) (block i : ℕ) → copy at block i → valid (at i).state ≡ true
-copy_valid at block i h = by_valid (valid (at i).state) (leb block (at i).block) h
-  where
-    by_valid : (v l : Bool) → (v && l && leb (at i).block block) ≡ true → v ≡ true
-    by_valid true l h = refl
-    by_valid false l h = absurd (cc)
-
 pub copy_fewer : (old new : ℕ → Line) → Fewer old new → (block i : ℕ) → copy new block i → copy old block i
-copy_fewer old new few block i h = ap (holds_block block) (sym (few i (copy_valid new block i h))) ∙ h
+copy_fewer old new few block i h = ap (holds_block block) (sym (few i (copy_valid block (new i) h))) ∙ h
 
 module _ (m : Measures) (old new : ℕ → Line) (few : Fewer old new) where
   pub homed_fewer : Homed m old → Homed m new
-  homed_fewer h = record {
-    home = λ i v. subst (λ line. Home m line.block i) (sym (few i v)) (h.home i (ap (λ line. valid line.state) (sym (few i v)) ∙ v));
-    once = λ block i j a b e. h.once block i j (copy_fewer old new few block i a) (copy_fewer old new few block j b) e;
-  }
+  homed_fewer = homed_kept m old new (λ i v. (ap (λ line. valid line.state) (sym (few i v)) ∙ v, ap (λ line. line.block) (few i v)))
 
   pub holder_fewer : (l : Ledger) → HolderAlone m old l → HolderAlone m new l
   holder_fewer l h p a i held c = h p a i held (copy_fewer old new few (block_of a) i c)
-
-pub modified_valid : (s : State) → modified s ≡ true → valid s ≡ true
-modified_valid I h = absurd (cc)
-modified_valid S h = refl
-modified_valid SM h = refl
-modified_valid EC h = refl
-modified_valid EM h = refl
-
-pub own_copy : (line : Line) (block : ℕ) → valid line.state ≡ true → block ≡ line.block → holds_block block line ≡ true
-own_copy line block v e = rw v (grind (arith, nat_tests))
-
-both_of : (a b : Bool) → (a && b) ≡ true → (a ≡ true) × (b ≡ true)
-both_of true true h = (refl, refl)
-both_of true false h = absurd (cc)
-both_of false b h = absurd (cc)
-
-same_block : (a b : ℕ) (v : Bool) → (v && leb a b && leb b a) ≡ true → eqb a b ≡ true
-same_block a b true h = grind (arith, nat_tests)
-same_block a b false h = absurd (cc)
 
 -- the table with the line at v blank, and memory with its words if it was modified
 module _ (at : ℕ → Line) (v : ℕ) where
@@ -68,6 +38,19 @@ module _ (at : ℕ → Line) (v : ℕ) where
 
   abbrev pub given_back : (ℕ → List ℕ) → ℕ → List ℕ
   given_back mem k = cond (modified (at v).state && eqb k (at v).block) (at v).words (mem k)
+
+  pub without_here : without v ≡ blank_line
+  without_here = cond-true (eqb v v) blank_line (at v) (eq-eqb v v refl)
+
+  pub without_elsewhere : (i : ℕ) → (i ≡ v → ⊥) → without i ≡ at i
+  without_elsewhere i far = cond-false (eqb i v) blank_line (at i) (ne_eqb i v far)
+
+  -- memory still has four words of each block
+  pub given_four : (mem : ℕ → List ℕ) → (valid (at v).state ≡ true → length (at v).words ≡ 4) → ((b : ℕ) → length (mem b) ≡ 4)
+      → (b : ℕ) → length (given_back mem b) ≡ 4
+  given_four mem has all b =
+      cond_both (modified (at v).state && eqb b (at v).block) (at v).words (mem b) (λ (x : List ℕ). length x ≡ 4)
+      (λ h. has (modified_valid (at v).state (and_parts _ _ h).0)) (λ h. all b)
 
   pub without_fewer : Fewer at without
   without_fewer i h = by_place (eqb i v) h
@@ -87,15 +70,17 @@ module _ (at : ℕ → Line) (v : ℕ) where
     was block i h = copy_fewer at without without_fewer block i h
 
     same : (block i : ℕ) → copy without block i → without i ≡ at i
-    same block i h = without_fewer i (copy_valid without block i h)
+    same block i h = without_fewer i (copy_valid block (without i) h)
 
     -- the replaced line is not a modified copy of the block, so all copies were clean before
     all_clean : (block : ℕ) → (modified (at v).state && eqb block (at v).block) ≡ false
         → ((i : ℕ) → copy without block i → modified (without i).state ≡ false) → (i : ℕ) → copy at block i → modified (at i).state ≡ false
     all_clean block other all i h = elim (eqb_tells i v) [
-      | inl here ↦ ap (λ k. modified (at k).state) here.1 ∙ by_state (modified (at v).state) (same_block block (at v).block (valid (at v).state) (subst (copy at block) here.1 h)) other
+      | inl here ↦
+          let same_block = copy_block block (at v) (subst (copy at block) here.1 h) in
+          ap (λ k. modified (at k).state) here.1 ∙ by_state (modified (at v).state) (eq-eqb block (at v).block (sym same_block)) other
       | inr elsewhere ↦
-          let kept : without i ≡ at i = ap (λ b. cond b blank_line (at i)) elsewhere.0 in
+          let kept = without_elsewhere i elsewhere.1 in
           ap (λ line. modified line.state) (sym kept) ∙ all i (ap (holds_block block) kept ∙ h)
     ]
       where
@@ -109,9 +94,9 @@ module _ (at : ℕ → Line) (v : ℕ) where
         by_line : (b : Bool) → (modified (at v).state && eqb block (at v).block) ≡ b → cond b (at v).words (mem block) ≡ truth block
         by_line false e = c.clean block (all_clean block e all)
         by_line true e =
-            let both = both_of (modified (at v).state) (eqb block (at v).block) e in
+            let both = and_parts (modified (at v).state) (eqb block (at v).block) e in
             let here = eqb-true block (at v).block both.1 in
-            c.agree block v (own_copy (at v) block (modified_valid (at v).state both.0) here)
+            c.agree block v (copy_from block (at v) (modified_valid (at v).state both.0) (sym here))
 
     pub replaced : Coherent without (given_back mem) truth
     replaced = record {
@@ -144,19 +129,3 @@ module _ (mem : Mem) (lines : List Line) where
           ≡ (λ k. cond (b && eqb k (at_in lines way.place).block) (at_in lines way.place).words (mem.words k))
       by_state false h = refl
       by_state true h = by_grant (grants mem (at_in lines way.place).block) refl h
-
-  -- nothing is swapped out without a way
-  pub not_swapped : memory_after mem (victim_of lines None) ≡ mem
-  not_swapped = refl
-
--- a list of lines with a blank line set in it
-pub without_set : (lines : List Line) (v : ℕ) → v < length lines → at_in (set lines v blank_line) ≡ without (at_in lines) v
-without_set lines v inside = λ i k. at_place k i
-  where
-    at_place : (k : ℕ) → at_in (set lines v blank_line) k ≡ without (at_in lines) v k
-    at_place k = elim (eqb_tells k v) [
-      | inl here ↦
-          ap (at_in (set lines v blank_line)) here.1 ∙ get_or-set_same lines v blank_line no_line inside
-          ∙ ap (λ b. cond b blank_line (at_in lines k)) (sym here.0)
-      | inr other ↦ get_or-set_other lines v k blank_line no_line other.1 ∙ ap (λ b. cond b blank_line (at_in lines k)) (sym other.0)
-    ]

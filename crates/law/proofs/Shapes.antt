@@ -74,7 +74,8 @@ module _ (m : Measures) (ps : List Processor) (lines : List Line) (locks : List 
     pub cell : cell_of action_of found ≡ Some effect
     pub is : c ≡ met effect
 
-  by_cell : (c : Case) (cell : Option Effect) → cell_of action_of found ≡ cell → unless_checked found cell met ≡ Ok c → (e : Effect) × (cell_of action_of found ≡ Some e) × (c ≡ met e)
+  by_cell : (c : Case) (cell : Option Effect) → cell_of action_of found ≡ cell → unless_checked found cell met ≡ Ok c
+      → (e : Effect) × (cell_of action_of found ≡ Some e) × (c ≡ met e)
   by_cell c None same h = absurd (cc)
   by_cell c (Some e) same h = (e, same, ap (λ r. case_or r) (sym h))
     where

@@ -1,94 +1,37 @@
 -- What a bus command does to the line at each place.
 use Rattle.std.proofs.Common.{◌≡◌, ℕ, zero, suc, ◌+◌, ◌<◌, ◌≤◌, Bool, true, false, cond, not, ◌&&◌, ◌⊎◌, eqb, leb, List, length, set, Some, None, Option, sym, refl, ap, subst, ◌∙◌, inl, inr, arith, length-set}
-use Rattle.std.proofs.lemmas.Bool.{eq-eqb, eqb-true}
-use Rattle.std.proofs.lemmas.Bool.Decides.{eqb_tells, leb_tells, nat_tests}
+use Rattle.std.proofs.lemmas.Bool.{eq-eqb, eqb-true, and_parts, cond-false, false_from_ne_true}
+use Rattle.std.proofs.lemmas.Bool.Decides.{eqb_tells, leb_tells}
 use Rattle.std.proofs.lemmas.List.{get_or-set_same, get_or-set_other}
 use Rattle.protocol.specs.declared.command.BusCommand.{BusCommand}
-use Rattle.protocol.specs.declared.command.BusCommand.TheVariants.{F, FI, I as bus_i}
 use Rattle.protocol.specs.declared.line.Line.{Line}
 use Rattle.protocol.specs.declared.measures.Measures.{Measures}
-use Rattle.protocol.specs.declared.state.State.{State}
-use Rattle.protocol.specs.declared.state.State.TheVariants.{I, S, SM, EC, EM}
-use Rattle.protocol.specs.Entries.{valid}
-use Rattle.protocol.specs.Lines.{blank_line, no_line, in_state}
-use Rattle.protocol.specs.Places.{line_count, window_start}
-use Rattle.protocol.specs.StateTable.{snooped}
+use Rattle.protocol.specs.Lines.{no_line}
+use Rattle.protocol.specs.Places.{line_count}
 use Rattle.cluster.specs.Copies.{holds_block, line_of}
 use Rattle.cluster.specs.Snooping.{snooped_at, cache_snooped, other_snooped, snooped_from, others_snooped}
 use Rattle.law.specs.Law.{owner}
-use Rattle.law.proofs.Invariant.{at_in, copy, Home, Homed}
-use Rattle.law.proofs.Places.{copy_tells, FoundAt, copy_home, found_at, found_none, window_inside_table}
-
-pub copy_made : (block : ℕ) (line : Line) → valid line.state ≡ true → line.block ≡ block → holds_block block line ≡ true
-copy_made block line v b = rw v (grind (arith, nat_tests))
-
-pub both_tell : (a b : Bool) → (a && b) ≡ true → (a ≡ true) × (b ≡ true)
-both_tell true b h = (refl, h)
-both_tell false b h = absurd (cc)
-
-no_cond : {X : Type 0} (b : Bool) (x y : X) → (b ≡ true → ⊥) → cond b x y ≡ y
-no_cond true x y never = absurd (never refl)
-no_cond false x y never = refl
-
--- the line seen by a bus command
-abbrev pub struck : BusCommand → Line → Line
-struck bus line = in_state line (snooped bus line.state)
-
-snooped_valid : (bus : BusCommand) (s : State) → valid (snooped bus s) ≡ true → valid s ≡ true
-snooped_valid F I h = h
-snooped_valid FI I h = h
-snooped_valid bus_i I h = h
-snooped_valid bus S h = refl
-snooped_valid bus SM h = refl
-snooped_valid bus EC h = refl
-snooped_valid bus EM h = refl
-
--- a line left in use was in use before, for the same block
-abbrev pub BlockKept : Line → Line → Type 0
-BlockKept line left = valid left.state ≡ true → (valid line.state ≡ true) × (left.block ≡ line.block)
-
-in_state_valid : (line : Line) (s : State) → valid (in_state line s).state ≡ true → (valid s ≡ true) × ((in_state line s).block ≡ line.block)
-in_state_valid line s h = by_valid (valid s) h
-  where
-    by_valid : (v : Bool) → valid (cond v (record { state = s; block = line.block; words = line.words }) blank_line).state ≡ true
-        → (valid s ≡ true) × ((cond v (record { state = s; block = line.block; words = line.words }) blank_line).block ≡ line.block)
-    by_valid true h = (h, refl)
-    by_valid false h = absurd (cc)
-
-pub struck_kept : (bus : BusCommand) (line : Line) → BlockKept line (struck bus line)
-struck_kept bus line h = let left = in_state_valid line (snooped bus line.state) h in (snooped_valid bus line.state left.0, left.1)
-
--- lines that are kept or become I stay in their windows
-module _ (m : Measures) (at left : ℕ → Line) (kept : (i : ℕ) → BlockKept (at i) (left i)) where
-  pub copy_was : (block i : ℕ) → copy left block i → copy at block i
-  copy_was block i h =
-      let tells = copy_tells block (left i) h in
-      let was = kept i tells.0 in
-      copy_made block (at i) was.0 (sym was.1 ∙ tells.1)
-
-  pub homed_kept : Homed m at → Homed m left
-  homed_kept homed =
-      record {
-        home = λ i v. let was = kept i v in subst (λ b. Home m b i) (sym was.1) (homed.home i was.0);
-        once = λ block i j x y. homed.once block i j (copy_was block i x) (copy_was block j y);
-      }
+use Rattle.law.proofs.Copied.{BlockKept, homed_kept}
+use Rattle.law.proofs.Hearing.{heard, heard_kept}
+use Rattle.law.proofs.Invariant.{at_in, Homed}
+use Rattle.law.proofs.Places.{FoundAt, copy_home, found_at, found_none, window_inside_table}
 
 module _ (m : Measures) (some_columns : 0 < m.columns) (bus : BusCommand) (asking block : ℕ) where
   -- the line at a place after the bus command
   abbrev pub left_at : ℕ → Line → Line
-  left_at i line = cond (holds_block block line && not (eqb (owner m i) asking)) (struck bus line) line
+  left_at i line = cond (holds_block block line && not (eqb (owner m i) asking)) (heard (Some bus) line) line
 
-  pub left_kept : (i : ℕ) (line : Line) → BlockKept line (left_at i line)
+  left_kept : (i : ℕ) (line : Line) → BlockKept line (left_at i line)
   left_kept i line = by_test (holds_block block line && not (eqb (owner m i) asking))
     where
-      by_test : (b : Bool) → BlockKept line (cond b (struck bus line) line)
-      by_test true = struck_kept bus line
+      by_test : (b : Bool) → BlockKept line (cond b (heard (Some bus) line) line)
+      by_test true = heard_kept (Some bus) line
       by_test false = λ h. (h, refl)
 
   abbrev after : ℕ → List Line → List Line
   after p lines = other_snooped m bus asking block p lines
 
-  pub length_snooped_at : (lines : List Line) (o : Option ℕ) → length (snooped_at bus lines o) ≡ length lines
+  length_snooped_at : (lines : List Line) (o : Option ℕ) → length (snooped_at bus lines o) ≡ length lines
   length_snooped_at lines None = refl
   length_snooped_at lines (Some place) = length-set lines place _
 
@@ -112,12 +55,12 @@ module _ (m : Measures) (some_columns : 0 < m.columns) (bus : BusCommand) (askin
     in_cache i = holds_block block (at_in lines i) && eqb (owner m i) p
 
     one_cache : (i : ℕ) (o : Option ℕ) → line_of m lines p block ≡ o
-        → at_in (snooped_at bus lines o) i ≡ cond (in_cache i) (struck bus (at_in lines i)) (at_in lines i)
-    one_cache i None e = sym (no_cond (in_cache i) (struck bus (at_in lines i)) (at_in lines i) never)
+        → at_in (snooped_at bus lines o) i ≡ cond (in_cache i) (heard (Some bus) (at_in lines i)) (at_in lines i)
+    one_cache i None e = sym (cond-false (in_cache i) _ _ (false_from_ne_true (in_cache i) never))
       where
         never : in_cache i ≡ true → ⊥
         never h =
-            let both = both_tell (holds_block block (at_in lines i)) (eqb (owner m i) p) h in
+            let both = and_parts (holds_block block (at_in lines i)) (eqb (owner m i) p) h in
             found_none m some_columns lines fit homed p block listed e i both.0 (eqb-true (owner m i) p both.1)
     one_cache i (Some place) e = by_place (eqb_tells i place)
       where
@@ -125,36 +68,36 @@ module _ (m : Measures) (some_columns : 0 < m.columns) (bus : BusCommand) (askin
         found = found_at m some_columns lines fit homed p block place listed e
 
         inside : place < length lines
-        inside = let home = found.home in window_inside_table m some_columns lines fit p block place listed (subst (λ o. place < window_start m o block + m.ways) found.owned home.to)
+        inside = window_inside_table m some_columns lines fit (owner m place) block place found.home.listed found.home.to
 
         new : Line
-        new = struck bus (at_in lines place)
+        new = heard (Some bus) (at_in lines place)
 
         here : at_in (set lines place new) place ≡ cond (in_cache place) new (at_in lines place)
         here = get_or-set_same lines place new no_line inside ∙ sym (rw (found.copied, eq-eqb (owner m place) p found.owned) refl)
 
         never : (i ≡ place → ⊥) → in_cache i ≡ true → ⊥
         never other h =
-            let both = both_tell (holds_block block (at_in lines i)) (eqb (owner m i) p) h in
+            let both = and_parts (holds_block block (at_in lines i)) (eqb (owner m i) p) h in
             other (homed.once block i place both.0 found.copied (eqb-true (owner m i) p both.1 ∙ sym found.owned))
 
         by_place : ((eqb i place ≡ true) × (i ≡ place)) ⊎ ((eqb i place ≡ false) × (i ≡ place → ⊥))
-            → at_in (set lines place new) i ≡ cond (in_cache i) (struck bus (at_in lines i)) (at_in lines i)
-        by_place (inl same) = subst (λ k. at_in (set lines place new) k ≡ cond (in_cache k) (struck bus (at_in lines k)) (at_in lines k)) (sym same.1) here
+            → at_in (set lines place new) i ≡ cond (in_cache i) (heard (Some bus) (at_in lines i)) (at_in lines i)
+        by_place (inl same) = subst (λ k. at_in (set lines place new) k ≡ cond (in_cache k) (heard (Some bus) (at_in lines k)) (at_in lines k)) (sym same.1) here
         by_place (inr other) =
             get_or-set_other lines place i new no_line other.1
-            ∙ sym (no_cond (in_cache i) (struck bus (at_in lines i)) (at_in lines i) (never other.1))
+            ∙ sym (cond-false (in_cache i) _ _ (false_from_ne_true (in_cache i) (never other.1)))
 
     after_away : (i : ℕ) → (owner m i ≡ p → ⊥) → at_in (after p lines) i ≡ at_in lines i
     after_away i other = by_asking (eqb p asking)
       where
         never : in_cache i ≡ true → ⊥
-        never h = other (eqb-true (owner m i) p (let both = both_tell (holds_block block (at_in lines i)) (eqb (owner m i) p) h in both.1))
+        never h = other (eqb-true (owner m i) p (let both = and_parts (holds_block block (at_in lines i)) (eqb (owner m i) p) h in both.1))
 
         by_asking : (b : Bool) → at_in (cond b lines (cache_snooped m bus block p lines)) i ≡ at_in lines i
         by_asking true = refl
         by_asking false =
-            one_cache i (line_of m lines p block) refl ∙ no_cond (in_cache i) (struck bus (at_in lines i)) (at_in lines i) never
+            one_cache i (line_of m lines p block) refl ∙ cond-false (in_cache i) _ _ (false_from_ne_true (in_cache i) never)
 
     after_here : (i : ℕ) → owner m i ≡ p → at_in (after p lines) i ≡ left_at i (at_in lines i)
     after_here i owned = by_asking (eqb p asking) refl
@@ -162,12 +105,12 @@ module _ (m : Measures) (some_columns : 0 < m.columns) (bus : BusCommand) (askin
         by_asking : (b : Bool) → eqb p asking ≡ b → at_in (cond b lines (cache_snooped m bus block p lines)) i ≡ left_at i (at_in lines i)
         by_asking true e = sym (rw (owned, e) (by_copy (holds_block block (at_in lines i))))
           where
-            by_copy : (h : Bool) → cond (h && false) (struck bus (at_in lines i)) (at_in lines i) ≡ at_in lines i
+            by_copy : (h : Bool) → cond (h && false) (heard (Some bus) (at_in lines i)) (at_in lines i) ≡ at_in lines i
             by_copy true = refl
             by_copy false = refl
         by_asking false e =
             one_cache i (line_of m lines p block) refl
-            ∙ ap (λ b. cond (holds_block block (at_in lines i) && b) (struck bus (at_in lines i)) (at_in lines i))
+            ∙ ap (λ b. cond (holds_block block (at_in lines i) && b) (heard (Some bus) (at_in lines i)) (at_in lines i))
             (eq-eqb (owner m i) p owned ∙ sym (ap (λ o. not (eqb o asking)) owned ∙ ap not e))
 
     after_at : (i : ℕ) → BlockKept (at_in lines i) (at_in (after p lines) i)
@@ -202,14 +145,16 @@ module _ (m : Measures) (some_columns : 0 < m.columns) (bus : BusCommand) (askin
   from_inside (suc count) p lines fit homed room i low high =
       let listed : p < m.processors = omega (arith, room) in
       by_owner listed (eqb_tells (owner m i) p)
-      (λ above. from_inside count (p + 1) (after p lines) (length_after p lines ∙ fit) (homed_after lines fit homed p listed) (omega (arith, room)) i above (omega (arith, high)))
+      (λ above. from_inside count (p + 1) (after p lines) (length_after p lines ∙ fit) (homed_after lines fit homed p listed) (omega (arith, room))
+      i above (omega (arith, high)))
     where
       by_owner : p < m.processors → ((eqb (owner m i) p ≡ true) × (owner m i ≡ p)) ⊎ ((eqb (owner m i) p ≡ false) × (owner m i ≡ p → ⊥))
           → (p + 1 ≤ owner m i → at_in (snooped_from m bus asking block (p + 1) count (after p lines)) i ≡ left_at i (at_in (after p lines) i))
           → at_in (snooped_from m bus asking block (p + 1) count (after p lines)) i ≡ left_at i (at_in lines i)
       by_owner listed (inl same) rest =
           let here = same.1 in
-          from_outside count (p + 1) (after p lines) (length_after p lines ∙ fit) (homed_after lines fit homed p listed) (omega (arith, room)) i (inl (omega (arith, here)))
+          from_outside count (p + 1) (after p lines) (length_after p lines ∙ fit) (homed_after lines fit homed p listed) (omega (arith, room))
+          i (inl (omega (arith, here)))
           ∙ after_here lines fit homed p listed i here
       by_owner listed (inr other) rest = rest (above (leb_tells (p + 1) (owner m i))) ∙ ap (left_at i) (after_away lines fit homed p listed i other.1)
         where
@@ -220,23 +165,17 @@ module _ (m : Measures) (some_columns : 0 < m.columns) (bus : BusCommand) (askin
   module _ (lines : List Line) (fit : length lines ≡ line_count m) (homed : Homed m (at_in lines)) where
     -- the line at each place after the bus command
     pub snooped_at_places : (i : ℕ) → at_in (others_snooped m bus asking block lines) i
-        ≡ cond (holds_block block (at_in lines i) && not (eqb (owner m i) asking)) (in_state (at_in lines i) (snooped bus (at_in lines i).state)) (at_in lines i)
+        ≡ cond (holds_block block (at_in lines i) && not (eqb (owner m i) asking)) (heard (Some bus) (at_in lines i)) (at_in lines i)
     snooped_at_places i = elim (leb_tells m.processors (owner m i)) [
       | inl past ↦
           let out = past.1 in
           from_outside m.processors 0 lines fit homed (omega arith) i (inr (omega (arith, out)))
-          ∙ sym (no_cond (holds_block block (at_in lines i) && not (eqb (owner m i) asking)) (struck bus (at_in lines i)) (at_in lines i) (never out))
+          ∙ sym (cond-false _ (heard (Some bus) (at_in lines i)) (at_in lines i) (false_from_ne_true _ (never out)))
       | inr within ↦ let low = within.1 in from_inside m.processors 0 lines fit homed (omega arith) i (omega arith) (omega (arith, low))
     ]
       where
         never : m.processors ≤ owner m i → (holds_block block (at_in lines i) && not (eqb (owner m i) asking)) ≡ true → ⊥
         never out h =
-            let home = copy_home m some_columns lines fit homed block i (let both = both_tell (holds_block block (at_in lines i)) (not (eqb (owner m i) asking)) h in both.0) in
-            let listed = home.listed in
+            let both = and_parts (holds_block block (at_in lines i)) (not (eqb (owner m i) asking)) h in
+            let listed = (copy_home m some_columns lines fit homed block i both.0).listed in
             absurd (omega (arith, out, listed))
-
-    pub others_kept : (i : ℕ) → BlockKept (at_in lines i) (at_in (others_snooped m bus asking block lines) i)
-    others_kept i = subst (BlockKept (at_in lines i)) (sym (snooped_at_places i)) (left_kept i (at_in lines i))
-
-    pub homed_snooped : Homed m (at_in (others_snooped m bus asking block lines))
-    homed_snooped = homed_kept m (at_in lines) (at_in (others_snooped m bus asking block lines)) others_kept homed

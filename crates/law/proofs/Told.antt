@@ -1,5 +1,5 @@
 -- The cluster's locks and waits are the ledger's throughout.
-use Rattle.std.proofs.Common.{◌≡◌, ℕ, zero, suc, ◌+◌, ◌<◌, ◌≤◌, Bool, true, false, cond, ltb, List, [], ◌∷◌, length, get_or, drop, replicate, Some, None, Option, refl, ap, ◌∙◌, arith, length-set}
+use Rattle.std.proofs.Common.{◌≡◌, ℕ, ◌<◌, ◌≤◌, Bool, true, false, cond, ltb, List, length, drop, replicate, Some, None, Option, refl, ap, ◌∙◌, arith, length-set}
 use lib.ListN.{length-replicate}
 use Rattle.protocol.specs.declared.command.Command.{Command}
 use Rattle.protocol.specs.declared.command.Request.{Request}
@@ -18,29 +18,26 @@ use Rattle.cluster.specs.Locks.{locks_from}
 use Rattle.cluster.specs.Making.{resting, blank_entry}
 use Rattle.cluster.specs.Rule.{Outcome}
 use Rattle.cluster.specs.Settling.{locks_settled, ul_sent}
-use Rattle.cluster.specs.Tables.{map_from}
 use Rattle.cluster.specs.Waiting.{awaited_in}
-use Rattle.law.specs.Accounts.{Accounts, Throughout, new_board, LocksAreTold}
+use Rattle.law.specs.Accounts.{Accounts, new_board, LocksAreTold}
 use Rattle.law.specs.Calls.{Call, command, drain, census, question, Board, command_on, said_by, left_by}
 use Rattle.law.specs.Ledger.{Ledger, opened, fed}
 use Rattle.law.proofs.Awaits.{waits_kept}
-use Rattle.law.proofs.Holds.{holds_kept}
+use Rattle.law.proofs.Holds.{held_by, holds_kept}
+use Rattle.law.proofs.Invariant.{throughout}
 use Rattle.law.proofs.Shapes.{Shape, refused, waited, finished, shape}
-use Rattle.law.proofs.Windows.{first_counted}
+use Rattle.law.proofs.Windows.{first_counted, length-map, seen-replicate}
 use Rattle.std.specs.List.{count_by}
 use Rattle.std.proofs.lemmas.List.Folds.{sum_by-replicate}
 use Rattle.std.proofs.lemmas.List.Sums.{sum_by-take-drop, sum_by-take-le}
-
-pub length-map : {X : Type 0} (f : ℕ → X → X) (at : ℕ) (xs : List X) → length (map_from f at xs) ≡ length xs
-length-map f at [] = refl
-length-map f at (x ∷ xs) = ap suc (length-map f (at + 1) xs)
 
 -- the tables keep their lengths
 length_settled : (c : Command) (a : ℕ) (locks : List LockEntry) (entry : Option ℕ) → length (locks_settled c a locks entry) ≡ length locks
 length_settled c a locks None = refl
 length_settled c a locks (Some place) = length-set locks place _
 
-length_processors : (m : Measures) (ps : List Processor) (locks : List LockEntry) (c : Case) (taken : Option Taken) → length (processors_after m ps locks c taken) ≡ length ps
+length_processors : (m : Measures) (ps : List Processor) (locks : List LockEntry) (c : Case) (taken : Option Taken)
+    → length (processors_after m ps locks c taken) ≡ length ps
 length_processors m ps locks c taken = by_both (ul_sent c.command locks c.entry) (by_turn taken) refl refl
   where
     turned : (t : Bool) → by_turn taken ≡ t → length (turns_after m ps c taken) ≡ length ps
@@ -62,9 +59,6 @@ module _ (m : Measures) (ps : List Processor) (lines : List Line) (locks : List 
   processors_long o (waited w) = ap (λ x. length x.processors) w.is ∙ length-set ps w.case.processor _
   processors_long o (finished f) = ap (λ x. length x.processors) f.is ∙ length_processors m ps locks f.case (way_taken m ps lines f.case)
 
-abbrev pub held_by : Measures → List LockEntry → ℕ → ℕ → ℕ
-held_by m locks p a = count_by (locks_from a a) (window_of (locks_start m p) m.lock_entries locks)
-
 -- what is kept from call to call
 pub record Kept (m : Measures) (b : Board) (l : Ledger) : Type 0 where
   pub eight : length b.processors ≡ 8
@@ -78,7 +72,9 @@ some_one false = refl
 
 pub accounts : (m : Measures) (b : Board) (l : Ledger) → Kept m b l → Accounts m b l
 accounts m b l k = record {
-  locks = λ p a h. first_counted (locks_from a a) (locks_start m p) (window_of (locks_start m p) m.lock_entries b.locks) ∙ ap (ltb 0) (k.held p h a) ∙ some_one (l.holds p a);
+  locks = λ p a h.
+      first_counted (locks_from a a) (locks_start m p) (window_of (locks_start m p) m.lock_entries b.locks)
+      ∙ ap (ltb 0) (k.held p h a) ∙ some_one (l.holds p a);
   waits = k.waits;
 }
 
@@ -90,24 +86,15 @@ kept_on m b l few k (command q) =
       eight = processors_long m b.processors b.lines b.locks b.memory q o way ∙ k.eight;
       fit = locks_long m b.processors b.lines b.locks b.memory q o way ∙ k.fit;
       waits = waits_kept m b.processors b.lines b.locks b.memory q l k.eight few k.waits o way;
-      held = holds_kept m b.processors b.lines b.locks b.memory q l k.fit k.held o way;
+      held = holds_kept m b.processors b.lines b.locks b.memory q l k.held o way;
     }
 kept_on m b l few k drain = record { eight = k.eight; fit = k.fit; waits = k.waits; held = k.held }
 kept_on m b l few k census = k
 kept_on m b l few k (question address) = k
 
-throughout : (m : Measures) (b : Board) (l : Ledger) → m.processors ≤ 8 → Kept m b l → (calls : List Call) → Throughout (Accounts m) m b l calls
-throughout m b l few k [] = accounts m b l k
-throughout m b l few k (call ∷ calls) = (accounts m b l k, throughout m (left_by m b call) (fed call (said_by m b call) l) few (kept_on m b l few k call) calls)
-
 -- a new cluster has no locks, and nobody waits
 blank_counted : (a k : ℕ) → count_by (locks_from a a) (replicate k blank_entry) ≡ 0
 blank_counted a k = sum_by-replicate (λ x. cond (locks_from a a x) 1 0) k blank_entry ∙ omega arith
-
-at_rest : (k r : ℕ) → (get_or (replicate k resting) r resting).waits_for ≡ None
-at_rest zero r = refl
-at_rest (suc k) zero = refl
-at_rest (suc k) (suc r) = at_rest k r
 
 nobody : (b : Bool) (w : Option ℕ) → w ≡ None → cond b w None ≡ None
 nobody true w e = e
@@ -117,7 +104,7 @@ pub new_kept : (m : Measures) (mem : Mem) → Kept m (new_board m mem) (opened m
 new_kept m mem = record {
   eight = length-replicate 8 resting;
   fit = length-replicate (lock_count m) blank_entry;
-  waits = λ r. nobody (ltb r m.processors) _ (at_rest 8 r);
+  waits = λ r. nobody (ltb r m.processors) _ (seen-replicate (λ p. p.waits_for) 8 r resting resting refl);
   held = λ p h a.
       let one = λ (e : LockEntry). cond {A = ℕ} (locks_from a a e) 1 0 in
       let blank = replicate (lock_count m) blank_entry in
@@ -127,4 +114,6 @@ new_kept m mem = record {
 }
 
 pub locks_told : LocksAreTold
-locks_told g mem calls = throughout g.measures (new_board g.measures mem) (opened mem) g.few_processors (new_kept g.measures mem) calls
+locks_told g mem =
+    let m = g.measures in
+    throughout m (Accounts m) (Kept m) (accounts m) (λ b l. kept_on m b l g.few_processors) (new_board m mem) (opened mem) (new_kept m mem)

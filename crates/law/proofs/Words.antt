@@ -1,6 +1,7 @@
 -- The ledger's words are among those that the blocks have.
 use Rattle.std.proofs.Common.{◌≡◌, ℕ, zero, suc, ◌%◌, Bool, true, false, cond, eqb, List, [], ◌∷◌, length, get_or, set, Some, None, Option, sym, refl, ap, ◌∙◌, inl, inr, arith, length-set}
 use Rattle.std.proofs.lemmas.Bool.{cond_both}
+use Rattle.std.proofs.lemmas.Option.{same_Some}
 use Rattle.std.proofs.lemmas.Bool.Decides.{eqb_tells, nat_tests}
 use Rattle.std.proofs.lemmas.List.{get_or-set_same, get_or-set_other}
 use Rattle.protocol.specs.declared.command.Command.{Command}
@@ -85,13 +86,6 @@ done_words LR processor address b l x = refl
 done_words (UW word) processor address b l x = cond_both b _ _ (λ (k : Ledger). k.words x ≡ one_more address word l x) (λ e. refl) (λ e. refl)
 done_words U processor address b l x = cond_both b _ _ (λ (k : Ledger). k.words x ≡ l.words x) (λ e. refl) (λ e. refl)
 
-some_same : (x y : ℕ) → Some x ≡ Some y → x ≡ y
-some_same x y e = ap (λ o. from_some o) e
-  where
-    from_some : Option ℕ → ℕ
-    from_some None = x
-    from_some (Some z) = z
-
 three_zeros : (word n : ℕ) → (n ≡ 0 → ⊥) → get_or (word ∷ (0 ∷ (0 ∷ (0 ∷ [])))) n 0 ≡ 0
 three_zeros word zero h = absurd (h refl)
 three_zeros word (suc zero) h = refl
@@ -136,7 +130,7 @@ module _ (truth : ℕ → List ℕ) (l : Ledger) (tied : Tied truth l) (address 
         | inl here ↦
             ap (λ z. get_or (set ws (address % 4) new) (z % 4) 0) here.1
             ∙ get_or-set_same ws (address % 4) new 0 (omega (arith, long))
-            ∙ some_same new word (sym (same x ∙ (rw here.0 refl)) ∙ e)
+            ∙ same_Some new word (sym (same x ∙ (rw here.0 refl)) ∙ e)
         | inr else ↦
             get_or-set_other ws (address % 4) (x % 4) new 0 (λ low. else.1 (omega (arith, at, low)))
             ∙ ap (λ z. get_or z (x % 4) 0) (is ∙ ap truth (sym at)) ∙ tied.words x word (sym (same x ∙ (rw else.0 refl)) ∙ e)
@@ -159,10 +153,10 @@ module _ (truth : ℕ → List ℕ) (l : Ledger) (tied : Tied truth l) (address 
       elim (eqb_tells x address) [
         | inl here ↦
             ap (λ z. get_or (new ∷ (0 ∷ (0 ∷ (0 ∷ [])))) z 0) (ap (λ z. z % 4) here.1 ∙ start)
-            ∙ some_same new word (sym (same x ∙ (rw (in_block, here.0) refl)) ∙ e)
+            ∙ same_Some new word (sym (same x ∙ (rw (in_block, here.0) refl)) ∙ e)
         | inr else ↦
             three_zeros new (x % 4) (λ low. else.1 (omega (arith, at, low, start)))
-            ∙ some_same 0 word (sym (same x ∙ (rw (in_block, else.0) refl)) ∙ e)
+            ∙ same_Some 0 word (sym (same x ∙ (rw (in_block, else.0) refl)) ∙ e)
       ])
       (λ x else. same x ∙ elim (eqb_tells (block_of x) block) [
         | inl here ↦ absurd (else here.1)
