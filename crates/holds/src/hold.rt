@@ -41,7 +41,6 @@ fn ends(answer: &Result<Answer, Refusal>) -> bool
 
 impl Hold {
     // Takes a lock: issues LR. The call is that command, so what holds of commands holds of it.
-    #[tactic(auto, using(law::proofs::Along::law_along))]
     pub fn take<M: Memory>(
         cluster: &mut Cluster,
         lines: &mut [Line],
@@ -103,7 +102,6 @@ impl Hold {
     }
 
     // Gives the lock back: issues U. The call is that command, so what holds of commands holds of it.
-    #[tactic(auto, using(law::proofs::Along::law_along))]
     pub fn release<M: Memory>(
         self,
         cluster: &mut Cluster,
@@ -125,7 +123,6 @@ impl Hold {
     }
 
     // Writes a word and gives the lock back: issues UW. The call is that command, so what holds of commands holds of it.
-    #[tactic(auto, using(law::proofs::Along::law_along))]
     pub fn release_with<M: Memory>(
         self,
         cluster: &mut Cluster,

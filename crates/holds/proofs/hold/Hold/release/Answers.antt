@@ -1,0 +1,8 @@
+use Rattle.protocol.specs.declared.command.Command.TheVariants.{U}
+use Rattle.law.proofs.Along.{law_along}
+use Rattle.holds.specs.Issued.{board_with}
+use Rattle.holds.specs.Holding.{releasing}
+use Rattle.holds.proofs.hold.Hold.release.Goals as goal
+
+pub returns-clause-law : goal.returns-clause-law
+returns-clause-law g c = law_along c.args.cluster.now.geometry (board_with c.args.cluster.now c.args.lines.now c.args.locks.now (g.M.Memory.model c.args.memory.now)) (releasing c.args.self U)
