@@ -1,6 +1,6 @@
 -- Records that are none of them refused, put one after another.
-use Prim.{Unit, tt}
-use Rattle.std.proofs.Common.{◌≡◌, ℕ, ◌+◌, ◌*◌, ◌≤◌, List, [], ◌∷◌, ◌++◌, length, take, drop, Some, None, Ok, Option, flat_map, sym, refl, ap, ◌∙◌, arith, length-append, length-take}
+use Prim.{tt}
+use Rattle.std.proofs.Common.{◌≡◌, ℕ, ◌+◌, ◌*◌, ◌≤◌, List, [], ◌∷◌, ◌++◌, length, take, Some, None, Ok, Option, flat_map, sym, refl, ap, ◌∙◌, arith, length-append}
 use Rattle.std.proofs.lemmas.Grind.{flat_map-append}
 use Rattle.std.proofs.lemmas.List.{length-take-le}
 use Rattle.protocol.specs.declared.command.Command.TheVariants.{R}
