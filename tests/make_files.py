@@ -5,9 +5,9 @@
     python3 tests/make_files.py --check   exit 1 if they are not up to date
 
 stdin holds, for each case: a byte with the length of its name, the name, then 8 bytes:
-R, W or C for read, write or copy, the processors (1 byte), the room of the output (2),
-how much of it is lent to close (2) and the length of the bytes that follow (2). These
-are the trace, or the records to put, 15 bytes each: stamp (4), processor (1), name of the
+R, W, C or A for read, write, copy or all, the processors (1 byte), the room of the
+output (2), how much of it is lent to close (2) and the length of the bytes that follow
+(2). These are the trace, or the records to put, 15 bytes each: stamp (4), processor (1), name of the
 command (2), address (4) and data (4). All numbers are little-endian. stdout holds, for
 each case, a line "== NAME" and the expected lines. The head of files.txt tells its form.
 """
@@ -21,10 +21,11 @@ import make_steps
 import model
 
 FILES = pathlib.Path(__file__).resolve().parent.parent / "crates" / "files"
+WRITING = ("write", "all")
 
 
 class Case(make_cases.Case):
-    """A trace that is read, written or copied."""
+    """A trace that is read, written, copied or written in one call."""
 
     known = {}
 
@@ -37,9 +38,9 @@ class Case(make_cases.Case):
     def take(self, line):
         """Takes one line of the part before `gives`."""
         word, *rest = line.split()
-        if word in ("read", "copy", "write"):
+        if word in ("read", "copy", "write", "all"):
             self.ask(word, *map(int, rest))
-        elif self.kind == "write":
+        elif self.kind in WRITING:
             self.take_written(word, rest)
         else:
             self.take_bytes(word, rest)
@@ -53,7 +54,7 @@ class Case(make_cases.Case):
     def take_written(self, word, rest):
         if word == "put":
             self.records.append(self.record(rest))
-        elif word == "close" and int(rest[0]) <= self.room:
+        elif word == "close" and self.kind == "write" and int(rest[0]) <= self.room:
             self.lent = int(rest[0])
         else:
             raise ValueError("no line of a written trace")
@@ -83,7 +84,7 @@ class Case(make_cases.Case):
     def data(self):
         if not self.kind:
             sys.exit("files.txt: %s asks for nothing" % self.name)
-        body = b"".join(self.records) if self.kind == "write" else bytes(self.input)
+        body = b"".join(self.records) if self.kind in WRITING else bytes(self.input)
         return (make_steps.counted(1, self.name.encode("ascii"))
                 + struct.pack("<cBHHH", self.kind[0].upper().encode("ascii"),
                               self.processors, self.room, self.lent, len(body)) + body)

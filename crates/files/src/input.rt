@@ -12,7 +12,8 @@ pub const PUT_SIZE: usize = 15;
 
 const HEAD_SIZE: usize = 8;
 
-// A trace to write: the room of its output, how much of the output is lent to close, and the records to put.
+// A trace to write: the room of its output, how much of the output is lent to close where it is called for itself, and
+// the records to put.
 #[derive(Clone, Copy)]
 pub struct Session<'a> {
     pub processors: u8,
@@ -33,6 +34,7 @@ pub enum Task<'a> {
     Read(&'a [u8]),
     Write(Session<'a>),
     Copy(Source<'a>),
+    WriteAll(Session<'a>),
 }
 
 #[derive(Clone, Copy)]
@@ -46,6 +48,7 @@ enum Kind {
     Read,
     Write,
     Copy,
+    WriteAll,
 }
 
 #[derive(Clone, Copy)]
@@ -59,6 +62,7 @@ impl TryFrom<u8> for Kind {
             b'R' => Ok(Kind::Read),
             b'W' => Ok(Kind::Write),
             b'C' => Ok(Kind::Copy),
+            b'A' => Ok(Kind::WriteAll),
             _ => Err(UnknownKind),
         }
     }
@@ -89,15 +93,20 @@ impl TryFrom<[u8; HEAD_SIZE]> for Head {
     }
 }
 
+fn session_of(head: Head, body: &[u8]) -> Session<'_> {
+    Session {
+        processors: head.processors,
+        room: head.room,
+        lent: head.lent,
+        records: body,
+    }
+}
+
 fn task_of(head: Head, body: &[u8]) -> Task<'_> {
     match head.kind {
         Kind::Read => Task::Read(body),
-        Kind::Write => Task::Write(Session {
-            processors: head.processors,
-            room: head.room,
-            lent: head.lent,
-            records: body,
-        }),
+        Kind::Write => Task::Write(session_of(head, body)),
+        Kind::WriteAll => Task::WriteAll(session_of(head, body)),
         Kind::Copy => Task::Copy(Source {
             trace: body,
             room: head.room,

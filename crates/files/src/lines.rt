@@ -53,6 +53,14 @@ pub fn show_copy(out: &mut Vec<u8>, answer: Result<usize, Refusal>) -> io::Resul
     }
 }
 
+// What writing all records in one call answers.
+pub fn show_written(out: &mut Vec<u8>, answer: Result<usize, Refusal>) -> io::Result<()> {
+    match answer {
+        Ok(length) => writeln!(out, "written {length}"),
+        Err(refusal) => show_refusal(out, refusal),
+    }
+}
+
 // Some bytes in one line, with a space behind every fourth but the last.
 fn show_row(out: &mut Vec<u8>, row: &[u8]) -> io::Result<()> {
     for (i, byte) in row.iter().enumerate() {

@@ -9,6 +9,7 @@ mod lines;
 use input::{Cases, PUT_SIZE, Session, Source, Task, record_of};
 use lines::{
     show_close, show_copy, show_output, show_put, show_record, show_refusal, show_refused,
+    show_written,
 };
 use parts::cases::put_heading;
 use parts::reading::read_all;
@@ -16,8 +17,10 @@ use std::alloc::Global;
 use std::io;
 use std::io::Write;
 use trace::copying::copy_trace;
+use trace::record::Record;
 use trace::trace::Trace;
 use trace::writer::Writer;
+use trace::writing::write_trace;
 
 // Every byte of an output before anything is written.
 const FILL: u8 = 0xEE;
@@ -52,7 +55,7 @@ fn put_all(
     Ok(())
 }
 
-fn write_trace(out: &mut Vec<u8>, output: &mut [u8], session: Session) -> io::Result<()> {
+fn write_session(out: &mut Vec<u8>, output: &mut [u8], session: Session) -> io::Result<()> {
     let mut writer = match Writer::open(output, session.processors) {
         Ok(writer) => writer,
         Err(refusal) => return show_refused(out, "open", refusal),
@@ -64,7 +67,19 @@ fn write_trace(out: &mut Vec<u8>, output: &mut [u8], session: Session) -> io::Re
 
 fn write_case(heap: Global, out: &mut Vec<u8>, session: Session) -> io::Result<()> {
     let mut output = vec![in heap; FILL; session.room]?;
-    write_trace(out, &mut output, session)?;
+    write_session(out, &mut output, session)?;
+    show_output(out, &output)
+}
+
+// The records in one call.
+fn write_all_case(heap: Global, out: &mut Vec<u8>, session: Session) -> io::Result<()> {
+    let mut output = vec![in heap; FILL; session.room]?;
+    let records: Vec<Record> = session
+        .records
+        .chunks_exact(PUT_SIZE)
+        .filter_map(record_of)
+        .collect(heap)?;
+    show_written(out, write_trace(&mut output, session.processors, &records))?;
     show_output(out, &output)
 }
 
@@ -79,6 +94,7 @@ fn play(heap: Global, out: &mut Vec<u8>, task: Task) -> io::Result<()> {
         Task::Read(bytes) => read_case(out, bytes),
         Task::Write(session) => write_case(heap, out, session),
         Task::Copy(source) => copy_case(heap, out, source),
+        Task::WriteAll(session) => write_all_case(heap, out, session),
     }
 }
 

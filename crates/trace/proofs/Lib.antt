@@ -4,3 +4,4 @@ pub mod Reading
 pub mod Puts
 pub mod Copies
 pub mod Known
+pub mod Writes

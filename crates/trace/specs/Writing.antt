@@ -1,6 +1,6 @@
 -- Writing a trace into an output: opened, records put one after another, closed.
 use Prim.{Unit, tt}
-use Rattle.std.specs.Prelude.{◌≡◌, ℕ, ◌+◌, ◌-◌, ◌*◌, ◌≤◌, cond, ◌&&◌, List, [], ◌∷◌, ◌++◌, length, take, drop, Some, None, Ok, Err, Option, Result, nat_le, nat_lt}
+use Rattle.std.specs.Prelude.{◌≡◌, ℕ, ◌+◌, ◌-◌, ◌*◌, ◌≤◌, cond, ◌&&◌, List, [], ◌∷◌, ◌++◌, length, take, drop, Some, None, Ok, Err, Option, Result, nat_le, nat_lt, flat_map}
 use Rattle.protocol.specs.declared.refusal.Refusal.{Refusal}
 use Rattle.protocol.specs.declared.refusal.Refusal.TheVariants as refusal
 use Rattle.trace.specs.declared.record.Record.{Record}
@@ -72,3 +72,24 @@ copied input output (Ok trace) =
 
 abbrev pub copy_rule : List ℕ → List ℕ → Closed
 copy_rule input output = copied input output (trace_of input)
+
+-- why the first of some records that may not be put is refused, if one may not
+abbrev pub first_refusal : ℕ → ℕ → ℕ → ℕ → List Record → Option Refusal
+first_refusal processors count stamp long [] = None
+first_refusal processors count stamp long (r ∷ rs) =
+    when_some (put_refusal processors count stamp long r) (λ e. Some e) (first_refusal processors (count + 1) r.stamp long rs)
+
+-- the records behind one another, and the trailer
+abbrev pub trace_bytes : ℕ → List Record → List ℕ
+trace_bytes processors rs = flat_map encoded rs ++ trailer_bytes (length rs * 16) processors
+
+abbrev pub all_written : List ℕ → ℕ → List Record → Result (Unit {0}) Refusal → Closed
+all_written output processors rs (Err e) = record { answer = Err e; output = output }
+all_written output processors rs (Ok opened) =
+    when_some (first_refusal processors 0 0 (length output) rs)
+    (λ e. record { answer = Err e; output = output })
+    (record { answer = Ok (length rs * 16 + 8); output = written output 0 (trace_bytes processors rs) })
+
+-- what writing records as a trace answers, and the output
+abbrev pub write_rule : List ℕ → ℕ → List Record → Closed
+write_rule output processors rs = all_written output processors rs (open_answer output processors)

@@ -7,3 +7,4 @@ pub mod records;
 pub mod trace;
 pub mod trailer;
 pub mod writer;
+pub mod writing;

@@ -1,5 +1,5 @@
 // Writing a trace into a lent output. The writer has numbers only; each call is lent the output.
-ghost use Rattle.std.specs.Prelude.{◌≡◌, ◌+◌, ◌*◌, ◌<◌, ◌≤◌, true, List, [], ◌∷◌, ◌++◌, length, take, is_ok, IfOk, Ok};
+ghost use Rattle.std.specs.Prelude.{◌≡◌, ◌+◌, ◌*◌, ◌<◌, ◌≤◌, true, List, [], ◌∷◌, ◌++◌, length, take, is_ok, if◌then◌else◌, IfOk, Ok};
 ghost use Rattle.std.specs.Result.{result_map_both, result_err};
 ghost use Rattle.trace.specs.declared.record.Record.{Record};
 ghost use Rattle.trace.specs.Traces.{trace_of};
@@ -63,6 +63,21 @@ impl Writer {
         Ok(())
     }
 
+    // Counts a record as put, or refuses it. Its bytes are the caller's to write.
+    pub(crate) fn admit(&mut self, next: &Record, long: usize) -> Result<(), Refusal>
+        ensures answer { result_err result ≡ put_refusal self.old.processors self.old.count self.old.stamp long next.now }
+        ensures count { self.new.count ≡ (if is_ok result then self.old.count + 1 else self.old.count) }
+        ensures stamp { self.new.stamp ≡ (if is_ok result then next.now.stamp else self.old.stamp) }
+        ensures processors { self.new.processors ≡ self.old.processors }
+        ensures few { is_ok result ≡ true → self.old.count < 1048576 }
+        ensures room { is_ok result ≡ true → self.old.count * 16 + 24 ≤ long }
+    {
+        self.check(next, long)?;
+        self.count += 1;
+        self.stamp = next.stamp;
+        Ok(())
+    }
+
     // Refuses a record that breaks a rule with 13, then an output too short for it and the trailer with 14.
     pub fn put(&mut self, output: &mut [u8], next: Record) -> Result<(), Refusal>
         ensures answer { result ≡ (put_rule self.old.processors self.old.count self.old.stamp output.old next).answer }
@@ -72,10 +87,9 @@ impl Writer {
         ensures processors { self.new.processors ≡ self.old.processors }
         ensures holds_more { is_ok result ≡ true → (rs : List Record) → HasPut self.old output.old rs → HasPut self.new output.new (rs ++ (next ∷ [])) }
     {
-        self.check(&next, output.len())?;
-        put_bytes(output, self.count * RECORD_SIZE, &encode(next));
-        self.count += 1;
-        self.stamp = next.stamp;
+        let at = self.count * RECORD_SIZE;
+        self.admit(&next, output.len())?;
+        put_bytes(output, at, &encode(next));
         Ok(())
     }
 

@@ -1,4 +1,4 @@
-use Rattle.std.proofs.Common.{◌≡◌, ℕ, ◌-◌, ◌*◌, ◌<◌, ◌==◌, Bool, true, false, [], length, drop, get_or, unwrap_or, ap, ◌∙◌, arith, rules}
+use Rattle.std.proofs.Common.{◌≡◌, ℕ, ◌-◌, ◌*◌, ◌<◌, ◌==◌, Bool, [], length, drop, get_or, unwrap_or, ap, ◌∙◌, arith, rules}
 use Rattle.std.proofs.lemmas.List.{get_or-drop, get_or-take}
 use Rattle.protocol.proofs.Finding.{lowest_found}
 use Rattle.trace.specs.Sizes.{records_in}

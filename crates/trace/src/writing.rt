@@ -1,0 +1,26 @@
+// Writing records as a trace in one call.
+ghost use Rattle.std.specs.Prelude.{◌≡◌, IfOk, Ok, take};
+ghost use Rattle.trace.specs.Traces.{trace_of};
+ghost use Rattle.trace.specs.Writing.{write_rule};
+
+use crate::record::Record;
+use crate::writer::Writer;
+use protocol::refusal::Refusal;
+
+// The trace of these records. Refuses as open does, then as put does at the first record that may not be put. All are
+// tried before the first is written, so that a refused call leaves the output as it was.
+pub fn write_trace(output: &mut [u8], processors: u8, records: &[Record]) -> Result<usize, Refusal>
+    ensures answer { result ≡ (write_rule output.old processors records.now).answer }
+    ensures output { output.new ≡ (write_rule output.old processors records.now).output }
+    ensures reads_back { IfOk result (λ n. trace_of (take n output.new) ≡ Ok (record { processors = processors; records = records.now })) }
+{
+    let mut trial = Writer::open(output, processors)?;
+    for next in records {
+        trial.admit(next, output.len())?;
+    }
+    let mut writer = Writer::open(output, processors)?;
+    for record in records {
+        writer.put(output, *record)?;
+    }
+    writer.close(output)
+}
