@@ -1,5 +1,5 @@
 -- A bump is its two commands, and what a done one makes of a ledger.
-use Rattle.std.proofs.Common.{◌≡◌, ℕ, Bool, true, false, cond, eqb, List, [], IfSome, Some, None, Option, Ok, Err, Result, sym, refl, ap, ◌∙◌, subst, arith}
+use Rattle.std.proofs.Common.{◌≡◌, ℕ, Bool, true, false, cond, eqb, [], IfSome, Some, None, Option, Ok, Err, Result, sym, refl, ap, ◌∙◌, subst, arith}
 use Rattle.std.proofs.lemmas.Bool.Decides.{nat_tests}
 use Rattle.protocol.specs.declared.answer.Answer.{Answer}
 use Rattle.protocol.specs.declared.answer.Answer.TheVariants.{Done, Wait}
@@ -8,7 +8,6 @@ use Rattle.protocol.specs.declared.command.Command.TheVariants.{LR, UW}
 use Rattle.protocol.specs.declared.geometry.Geometry.{Geometry}
 use Rattle.protocol.specs.declared.measures.Measures.{Measures}
 use Rattle.protocol.specs.declared.refusal.Refusal.{Refusal}
-use Rattle.memory.specs.Meaning.{Mem, Lawful}
 use Rattle.cluster.specs.Rule.{Outcome}
 use Rattle.law.specs.Calls.{command, Board, command_on, left_by}
 use Rattle.law.specs.Ledger.{Ledger, opened, entered, released as lock_released, command_fed}

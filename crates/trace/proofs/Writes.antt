@@ -8,7 +8,7 @@ use Rattle.protocol.specs.declared.refusal.Refusal.{Refusal}
 use Rattle.trace.specs.declared.record.Record.{Record}
 use Rattle.trace.specs.Records.{encoded}
 use Rattle.trace.specs.Traces.{when_some}
-use Rattle.trace.specs.Writing.{written, trailer_bytes, open_answer, put_refusal, Closed, close_rule, first_refusal, trace_bytes, all_written, write_rule}
+use Rattle.trace.specs.Writing.{written, trailer_bytes, put_refusal, Closed, close_rule, first_refusal, admission, trace_bytes, all_written, write_rule}
 use Rattle.trace.proofs.Puts.{not_some}
 use Rattle.trace.proofs.Copies.{close_fits, written_behind}
 
@@ -47,14 +47,13 @@ written_next output rs r i h more =
 
 module _ (processors : ℕ) (output : List ℕ) (rs : List Record) where
   -- the trailer behind all records is what the rule says
-  pub closed_behind : Ok tt ≡ open_answer output processors → first_refusal processors 0 0 (length output) rs ≡ None
-      → (out : List ℕ) → out ≡ written output 0 (flat_map encoded rs) → length rs * 16 + 8 ≤ length out
+  pub closed_behind : Ok tt ≡ admission output processors rs → (out : List ℕ) → out ≡ written output 0 (flat_map encoded rs) → length rs * 16 + 8 ≤ length out
       → (close_rule processors (length rs) out).output ≡ (write_rule output processors rs).output
-  closed_behind opened none out e room =
+  closed_behind admits out e room =
       let n = length rs in
       let trailer = trailer_bytes (n * 16) processors in
       let done : Closed = record { answer = Ok (n * 16 + 8); output = written output 0 (trace_bytes processors rs) } in
-      let rule : write_rule output processors rs ≡ done = ap (all_written output processors rs) (sym opened) ∙ rw none refl in
+      let rule : write_rule output processors rs ≡ done = ap (all_written output processors rs) (sym admits) in
       ap (λ x. x.output) (close_fits processors n out room)
       ∙ ap (λ ys. written ys (n * 16) trailer) e
       ∙ written_behind output (flat_map encoded rs) trailer (n * 16) (length_records rs)

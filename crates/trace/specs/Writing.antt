@@ -83,13 +83,19 @@ first_refusal processors count stamp long (r ∷ rs) =
 abbrev pub trace_bytes : ℕ → List Record → List ℕ
 trace_bytes processors rs = flat_map encoded rs ++ trailer_bytes (length rs * 16) processors
 
+-- what opening and putting all records answer, the first refusal or none
+abbrev pub admitted : ℕ → ℕ → List Record → Result (Unit {0}) Refusal → Result (Unit {0}) Refusal
+admitted processors long rs (Err e) = Err e
+admitted processors long rs (Ok opened) = when_some (first_refusal processors 0 0 long rs) (λ e. Err e) (Ok tt)
+
+abbrev pub admission : List ℕ → ℕ → List Record → Result (Unit {0}) Refusal
+admission output processors rs = admitted processors (length output) rs (open_answer output processors)
+
 abbrev pub all_written : List ℕ → ℕ → List Record → Result (Unit {0}) Refusal → Closed
 all_written output processors rs (Err e) = record { answer = Err e; output = output }
-all_written output processors rs (Ok opened) =
-    when_some (first_refusal processors 0 0 (length output) rs)
-    (λ e. record { answer = Err e; output = output })
-    (record { answer = Ok (length rs * 16 + 8); output = written output 0 (trace_bytes processors rs) })
+all_written output processors rs (Ok done) =
+    record { answer = Ok (length rs * 16 + 8); output = written output 0 (trace_bytes processors rs) }
 
 -- what writing records as a trace answers, and the output
 abbrev pub write_rule : List ℕ → ℕ → List Record → Closed
-write_rule output processors rs = all_written output processors rs (open_answer output processors)
+write_rule output processors rs = all_written output processors rs (admission output processors rs)

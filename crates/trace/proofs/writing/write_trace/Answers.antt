@@ -1,5 +1,5 @@
 use Rattle.std.proofs.Common.{◌≡◌, ◌+◌, ◌*◌, ◌<◌, [], ◌∷◌, ◌++◌, length, take, drop, get_or, flat_map, sym, refl, ap, subst, ◌∙◌, arith, rules}
-use Rattle.std.proofs.lemmas.List.{drop_more, take_more, take_all, drop_all}
+use Rattle.std.proofs.lemmas.List.{drop_more, take_more, take_all}
 use Rattle.trace.specs.Records.{encoded}
 use Rattle.trace.specs.Written.{HasPut}
 use Rattle.trace.specs.Writing.{written, close_rule, first_refusal}
@@ -39,15 +39,11 @@ returns-clause-output c =
     let rs = c.args.records.now in
     let out = c.loop-record.output in
     let inv = c.loop-record.invariant in
-    let first = c.loop-next.invariant in
     let all : c.loop-record.record-index ≡ length rs = search rules in
-    let none = sym (ap (first_refusal c.loop-next.trial.processors c.loop-next.trial.count c.loop-next.trial.stamp (length c.args.output.now))
-    (drop_all c.loop-next.next-index rs (search rules))) ∙ first.2 in
     let count : w.count ≡ length rs = inv.1 ∙ all in
     let served = inv.0 ∙ c.in_ok-writer.ensures.start.0 in
     c.close.ensures.output
     ∙ (λ j. (close_rule (served j) (count j) out).output)
-    ∙ closed_behind c.args.processors c.args.output.now rs c.in_ok-trial.ensures.answer
-    (ap (λ p. first_refusal p 0 0 (length c.args.output.now) rs) (sym c.in_ok-trial.ensures.start.0) ∙ sym none)
+    ∙ closed_behind c.args.processors c.args.output.now rs c.in_ok-writer.ensures.answer
     out (inv.3 ∙ ap (λ qs. written c.args.output.now 0 (flat_map encoded qs)) (take_all c.loop-record.record-index rs (search rules)))
     (let room = inv.4.room in omega (arith, room, count))

@@ -4,15 +4,6 @@ use Rattle.trace.specs.Written.{HasPut}
 use Rattle.trace.specs.Writing.{written, first_refusal}
 use Rattle.trace.proofs.writing.write_trace.Given as goal
 
--- what is refused of the records left is what is refused of them all
-abbrev pub invariant-loop-next : goal.invariant-loop-next
-invariant-loop-next l =
-    let w = l.trial in
-    (w.processors ≡ l.initial.trial.processors)
-    × (w.count ≡ l.next-index)
-    × (first_refusal w.processors w.count w.stamp (length l.output) (drop l.next-index l.records)
-    ≡ first_refusal l.initial.trial.processors 0 0 (length l.output) l.records)
-
 -- the records so far are in the output, and none of those left is refused
 abbrev pub invariant-loop-record : goal.invariant-loop-record
 invariant-loop-record l =
