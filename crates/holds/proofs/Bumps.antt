@@ -18,7 +18,7 @@ use Rattle.law.specs.Accounts.{left_along, ledger_along, new_board}
 use Rattle.law.specs.Law.{OnDone}
 use Rattle.law.proofs.Along.{law_along}
 use Rattle.holds.specs.Issued.{by}
-use Rattle.holds.specs.Holding.{hold_at, taken, ends, released, sent, releasing}
+use Rattle.holds.specs.Holding.{hold_at, taken, ends, released, answer_of, sent, releasing}
 use Rattle.holds.specs.Bumping.{one_more, word_back, bumped_from, bump_rule, bumping_after, bumping, word_read, OneHigher, Bumped, RaisedByOne, Raised}
 
 pub held : (mine hold : Hold) (done : Completion) (r : Result Answer Refusal) → Held hold done ≡ taken mine r → (hold ≡ mine) × (r ≡ Ok (Done done))
@@ -26,19 +26,13 @@ held mine hold done (Ok (Done d)) h = (cc, cc)
 held mine hold done (Ok (Wait hit)) h = absurd (cc)
 held mine hold done (Err e) h = absurd (cc)
 
-pub ended : (hold : Hold) (r answer : Result Answer Refusal) → Ended answer ≡ released hold r → answer ≡ r
-ended hold r answer = by_end (ends r)
+-- whatever becomes of the hold, the answer is the command's
+pub answered_by : (hold : Hold) (r : Result Answer Refusal) → answer_of (released hold r) ≡ r
+answered_by hold r = by_end (ends r)
   where
-    by_end : (b : Bool) → Ended answer ≡ cond b (Ended r) (Back hold r) → answer ≡ r
-    by_end true h = cc
-    by_end false h = absurd (cc)
-
-pub back : (hold again : Hold) (r answer : Result Answer Refusal) → Back again answer ≡ released hold r → answer ≡ r
-back hold again r answer = by_end (ends r)
-  where
-    by_end : (b : Bool) → Back again answer ≡ cond b (Ended r) (Back hold r) → answer ≡ r
-    by_end true h = absurd (cc)
-    by_end false h = cc
+    by_end : (b : Bool) → answer_of (cond b (Ended r) (Back hold r)) ≡ r
+    by_end true = refl
+    by_end false = refl
 
 itself : (n : ℕ) → eqb n n ≡ true
 itself n = grind (arith, nat_tests)

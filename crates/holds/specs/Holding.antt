@@ -34,6 +34,10 @@ ends (Err refusal) = number_of refusal == 8
 abbrev pub released : Hold → Result Answer Refusal → Released
 released hold answer = cond (ends answer) (Ended answer) (Back hold answer)
 
+abbrev pub answer_of : Released → Result Answer Refusal
+answer_of (Ended answer) = answer
+answer_of (Back hold answer) = answer
+
 abbrev pub sent : Hold → Command → Request
 sent hold released_by = by hold.processor released_by hold.address
 

@@ -5,7 +5,7 @@ ghost use Rattle.law.specs.Accounts.{left_along};
 ghost use Rattle.law.specs.Along.{LawAlong};
 ghost use Rattle.holds.specs.Bumping.{bump_rule, bumping, Bumped, Raised};
 
-use crate::hold::{Hold, Released, Taken};
+use crate::hold::{Hold, Taken};
 use cluster::cluster::Cluster;
 use memory::memory::Memory;
 use protocol::answer::Answer;
@@ -40,11 +40,6 @@ pub fn bump<M: Memory>(
         Taken::Held(hold, taken) => (hold, taken),
         Taken::NotHeld(answer) => return answer,
     };
-    match hold.release_with(cluster, lines, locks, memory, taken.word.wrapping_add(1)) {
-        Released::Ended(answer) => answer,
-        Released::Back(hold, answer) => {
-            hold.lay_down();
-            answer
-        }
-    }
+    hold.release_with(cluster, lines, locks, memory, taken.word.wrapping_add(1))
+        .into_answer()
 }

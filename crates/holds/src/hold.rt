@@ -4,7 +4,7 @@ ghost use Rattle.cluster.specs.Rule.{command_rule};
 ghost use Rattle.holds.specs.Issued.{by, board_with};
 ghost use Rattle.law.specs.Accounts.{left_along};
 ghost use Rattle.law.specs.Along.{LawAlong};
-ghost use Rattle.holds.specs.Holding.{hold_at, taken, ends, released, sent, taking, releasing};
+ghost use Rattle.holds.specs.Holding.{hold_at, taken, ends, released, answer_of, sent, taking, releasing};
 
 use cluster::cluster::Cluster;
 use memory::memory::Memory;
@@ -30,6 +30,21 @@ pub enum Taken {
 pub enum Released {
     Ended(Result<Answer, Refusal>),
     Back(Hold, Result<Answer, Refusal>),
+}
+
+impl Released {
+    // The answer alone. A hold that came back is laid down: its lock stays.
+    pub fn into_answer(self) -> Result<Answer, Refusal>
+        ensures { result ≡ answer_of self }
+    {
+        match self {
+            Released::Ended(answer) => answer,
+            Released::Back(hold, answer) => {
+                hold.lay_down();
+                answer
+            }
+        }
+    }
 }
 
 // Whether the answer of a release ends the hold: the lock is free, or was not there.

@@ -278,13 +278,7 @@ fn add<M: Memory>(
         }
         _ => hold.release(cluster, lines, locks, memory),
     };
-    match released {
-        Released::Ended(answer) => answer,
-        Released::Back(hold, answer) => {
-            hold.lay_down();
-            answer
-        }
-    }
+    released.into_answer()
 }
 
 #[test]

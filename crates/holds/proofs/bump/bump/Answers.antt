@@ -2,10 +2,10 @@ use Rattle.std.proofs.Common.{ap, ◌∙◌}
 use Rattle.cluster.specs.Rule.{Outcome}
 use Rattle.law.specs.Accounts.{left_along}
 use Rattle.holds.specs.Issued.{board_with}
-use Rattle.holds.specs.Holding.{hold_at}
+use Rattle.holds.specs.Holding.{hold_at, answer_of}
 use Rattle.law.proofs.Along.{law_along}
 use Rattle.holds.specs.Bumping.{bumping}
-use Rattle.holds.proofs.Bumps.{held, ended, back, locked, stops, goes, raised}
+use Rattle.holds.proofs.Bumps.{held, answered_by, locked, stops, goes, raised}
 use Rattle.holds.proofs.bump.bump.Goals as goal
 
 pub returns-in-NotHeld : goal.returns-in-NotHeld
@@ -31,15 +31,15 @@ returns-in-NotHeld g c =
       bumped = s.bumped;
     }
 
-pub returns-in-Ended : goal.returns-in-Ended
-returns-in-Ended g c =
+pub returns : goal.returns
+returns g c =
     let p = c.args.processor in
     let a = c.args.address in
     let cluster = c.args.cluster.now in
     let m = cluster.geometry.measures in
     let b = board_with cluster c.args.lines.now c.args.locks.now (g.M.Memory.model c.args.memory.now) in
     let t = c.in-Held.ensures in
-    let r = c.in-Ended.ensures in
+    let r = c.release_with.ensures in
     let after = c.take.new in
     let n = after.cluster.geometry.measures in
     let d = board_with after.cluster after.lines after.locks (g.M.Memory.model after.memory) in
@@ -47,39 +47,7 @@ returns-in-Ended g c =
     let done = c.in-Held.taken in
     let had = held (hold_at p a) hold done _ t.answer in
     let then = goes m p a b n d hold done (ap (λ k. k.measures) t.geometry) t.commands had.0 had.1 in
-    let answered = ended _ _ _ r.answer in
-    let made = answered ∙ ap (λ (o : Outcome). o.answer) then.rule in
-    record {
-      answer = made;
-      processors = r.processors ∙ ap (λ (o : Outcome). o.processors) then.rule;
-      lines = r.lines ∙ ap (λ (o : Outcome). o.lines) then.rule;
-      locks = r.locks ∙ ap (λ (o : Outcome). o.locks) then.rule;
-      memory = r.memory ∙ ap (λ (o : Outcome). o.memory) then.rule;
-      geometry = r.geometry ∙ t.geometry;
-      kept = r.kept ∙ t.kept;
-      commands = r.commands ∙ then.calls;
-      law = law_along cluster.geometry b (bumping m p a b);
-      raised = raised cluster.geometry p a b _ made (then.bumped _ answered);
-      bumped = then.bumped _ answered;
-    }
-
-pub returns-in-Back : goal.returns-in-Back
-returns-in-Back g c =
-    let p = c.args.processor in
-    let a = c.args.address in
-    let cluster = c.args.cluster.now in
-    let m = cluster.geometry.measures in
-    let b = board_with cluster c.args.lines.now c.args.locks.now (g.M.Memory.model c.args.memory.now) in
-    let t = c.in-Held.ensures in
-    let r = c.in-Back.ensures in
-    let after = c.take.new in
-    let n = after.cluster.geometry.measures in
-    let d = board_with after.cluster after.lines after.locks (g.M.Memory.model after.memory) in
-    let hold = c.in-Held.hold in
-    let done = c.in-Held.taken in
-    let had = held (hold_at p a) hold done _ t.answer in
-    let then = goes m p a b n d hold done (ap (λ k. k.measures) t.geometry) t.commands had.0 had.1 in
-    let answered = back _ _ _ _ r.answer in
+    let answered = c.into_answer.ensures ∙ ap answer_of r.answer ∙ answered_by hold _ in
     let made = answered ∙ ap (λ (o : Outcome). o.answer) then.rule in
     record {
       answer = made;
