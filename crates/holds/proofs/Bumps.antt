@@ -19,7 +19,7 @@ use Rattle.law.specs.Law.{OnDone}
 use Rattle.law.proofs.Along.{law_along}
 use Rattle.holds.specs.Issued.{by}
 use Rattle.holds.specs.Holding.{hold_at, taken, ends, released, answer_of, sent, releasing}
-use Rattle.holds.specs.Bumping.{one_more, word_back, bumped_from, bump_rule, bumping_after, bumping, word_read, OneHigher, Bumped, RaisedByOne, Raised}
+use Rattle.holds.specs.Bumping.{one_more, word_back, bumped_from, bump_rule, bumping_after, bumping, OneHigher, Bumped, RaisedByOne, Raised}
 
 pub held : (mine hold : Hold) (done : Completion) (r : Result Answer Refusal) → Held hold done ≡ taken mine r → (hold ≡ mine) × (r ≡ Ok (Done done))
 held mine hold done (Ok (Done d)) h = (cc, cc)
@@ -72,12 +72,13 @@ module _ (m : Measures) (processor address : ℕ) where
         → (command_on m locked (word_back m processor address done.word)).answer ≡ r → Bumped m processor address b r
     fed_twice done h (Ok (Wait hit)) h' = tt
     fed_twice done h (Err e) h' = tt
-    fed_twice done h (Ok (Done d)) h' = λ l.
+    fed_twice done h (Ok (Done d)) h' =
         let q = word_back m processor address done.word in
+        let P : Result Answer Refusal → Type 0 = λ r. OnDone r (λ read. (l : Ledger) → OneHigher processor address read.word (fed_first r l)) in
+        subst P (sym h) (λ l.
         let held = command_fed (by processor LR address) (Ok (Done done)) l in
-        let P : Result Answer Refusal → Type 0 = λ r. OneHigher processor address (word_read r) (fed_first r l) in
         let Q : Result Answer Refusal → Type 0 = λ r. OneHigher processor address done.word (command_fed q r held) in
-        subst P (sym h) (subst Q (sym h') (one_higher done.word d.ul held))
+        subst Q (sym h') (one_higher done.word d.ul held))
 
     -- a bump whose LR is done is UW too, from what LR left
     pub record Goes (m' : Measures) (b' : Board) (hold : Hold) (word : ℕ) : Type 0 where
@@ -123,11 +124,14 @@ raised g processor address b r is made mem lawful calls from = by_first first.an
     by_first (Ok (Wait hit)) e (Ok (Done d)) is made = absurd (cc (is ∙ ap (λ y. (bumped_from g.measures processor address first y).answer) e ∙ e))
     by_first (Err refusal) e (Ok (Done d)) is made = absurd (cc (is ∙ ap (λ y. (bumped_from g.measures processor address first y).answer) e ∙ e))
     by_first (Ok (Done done)) e (Ok (Done d)) is made =
-        let higher = made before in
         record { word = by_word (before.words address) refl; free = higher.free }
       where
+        higher : OneHigher processor address done.word after
+        higher =
+            subst (λ x. OnDone x (λ read. (l : Ledger) → OneHigher processor address read.word (ledger_along g.measures b l (bumping g.measures processor address b)))) e made before
+
         by_word : (w : Option ℕ) → before.words address ≡ w → IfSome w (λ word. after.words address ≡ Some (one_more word))
         by_word None same = tt
         by_word (Some word) same =
             let told : done.word ≡ word = subst (λ o. IfSome o (λ word. done.word ≡ word)) same (subst (λ a. OnDone a (λ done. IfSome (before.words address) (λ word. done.word ≡ word))) e read) in
-            (made before).word ∙ ap (λ a. Some (one_more (word_read a))) e ∙ ap (λ n. Some (one_more n)) told
+            higher.word ∙ ap (λ n. Some (one_more n)) told

@@ -43,11 +43,6 @@ module _ (m : Measures) (processor address : ℕ) where
   abbrev pub bumping : Board → List Call
   bumping b = command (by processor LR address) ∷ bumping_after (command_on m b (by processor LR address)).answer
 
-abbrev pub word_read : Result Answer Refusal → ℕ
-word_read (Ok (Done done)) = done.word
-word_read (Ok (Wait hit)) = 0
-word_read (Err refusal) = 0
-
 -- the address has the word one higher, and the lock is free
 pub record OneHigher (processor address read : ℕ) (l : Ledger) : Type 0 where
   pub word : l.words address ≡ Some (one_more read)
@@ -55,10 +50,9 @@ pub record OneHigher (processor address read : ℕ) (l : Ledger) : Type 0 where
 
 -- what a done bump makes of any ledger; the word is the one that LR answered
 abbrev pub Bumped : Measures → ℕ → ℕ → Board → Result Answer Refusal → Type 0
-Bumped m processor address b (Ok (Done done)) =
-    (l : Ledger) → OneHigher processor address (word_read (command_on m b (by processor LR address)).answer) (ledger_along m b l (bumping m processor address b))
-Bumped m processor address b (Ok (Wait hit)) = Unit {0}
-Bumped m processor address b (Err refusal) = Unit {0}
+Bumped m processor address b answer =
+    OnDone answer (λ done. OnDone (command_on m b (by processor LR address)).answer
+    (λ read. (l : Ledger) → OneHigher processor address read.word (ledger_along m b l (bumping m processor address b))))
 
 -- in the words of the ledger before and after: its word is one higher, and the lock is free
 pub record RaisedByOne (processor address : ℕ) (before after : Ledger) : Type 0 where
