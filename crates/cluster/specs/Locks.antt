@@ -1,5 +1,5 @@
 -- Who holds locks, and what becomes of the lock entries.
-use Rattle.std.specs.Prelude.{ℕ, ◌+◌, ◌*◌, Bool, true, false, cond, not, ◌&&◌, List, is_some, Option, ◌==◌, nat_le, nat_lt}
+use Rattle.std.specs.Prelude.{ℕ, ◌+◌, ◌*◌, Bool, true, false, if◌then◌else◌, not, ◌&&◌, List, is_some, Option, ◌==◌, nat_le, nat_lt}
 use Rattle.protocol.specs.declared.measures.Measures.{Measures}
 use Rattle.protocol.specs.declared.lock.LockEntry.{LockEntry}
 use Rattle.protocol.specs.declared.lock.LockState.{LockState}
@@ -47,7 +47,7 @@ own_entry m processor place =
 -- the asking processor begins to wait: a lock of another processor in the block becomes LW
 abbrev pub waited_at : Measures → ℕ → ℕ → ℕ → LockEntry → LockEntry
 waited_at m asking block place e =
-    cond (not (own_entry m asking place) && locks_block block e) (record { state = LW; address = e.address }) e
+    if not (own_entry m asking place) && locks_block block e then record { state = LW; address = e.address } else e
 
 abbrev pub waited_for : Measures → List LockEntry → ℕ → ℕ → List LockEntry
 waited_for m locks asking block = map_from (waited_at m asking block) 0 locks

@@ -1,5 +1,5 @@
 -- A new cluster: every line I, every lock entry E, every number 0, nobody waits.
-use Rattle.std.specs.Prelude.{ℕ, Bool, cond, ◌&&◌, List, length, replicate, None, ◌==◌}
+use Rattle.std.specs.Prelude.{ℕ, Bool, if◌then◌else◌, ◌&&◌, List, length, replicate, None, ◌==◌}
 use Rattle.protocol.specs.declared.measures.Measures.{Measures}
 use Rattle.protocol.specs.declared.geometry.Geometry.{Geometry}
 use Rattle.protocol.specs.declared.line.Line.{Line}
@@ -27,13 +27,13 @@ module _ (g : Geometry) (lines : List Line) (locks : List LockEntry) where
   fits = tables_fit g.measures (length lines) (length locks)
 
   abbrev pub new_geometry : Geometry → Geometry
-  new_geometry old = cond fits g old
+  new_geometry old = if fits then g else old
 
   abbrev pub new_processors : List Processor → List Processor
-  new_processors old = cond fits all_resting old
+  new_processors old = if fits then all_resting else old
 
   abbrev pub new_lines : List Line
-  new_lines = cond fits (replicate (length lines) blank_line) lines
+  new_lines = if fits then replicate (length lines) blank_line else lines
 
   abbrev pub new_locks : List LockEntry
-  new_locks = cond fits (replicate (length locks) blank_entry) locks
+  new_locks = if fits then replicate (length locks) blank_entry else locks

@@ -1,5 +1,5 @@
 -- The rule of the command call: its answer, and all that it leaves.
-use Rattle.std.specs.Prelude.{ℕ, cond, List, length, Some, None, Ok, Err, Option, Result, slice_index_or, slice_set}
+use Rattle.std.specs.Prelude.{ℕ, if◌then◌else◌, List, length, Some, None, Ok, Err, Option, Result, slice_index_or, slice_set}
 use Rattle.protocol.specs.declared.answer.Answer.{Answer}
 use Rattle.protocol.specs.declared.answer.Answer.TheVariants.{Done, Wait}
 use Rattle.protocol.specs.declared.command.Request.{Request}
@@ -80,4 +80,4 @@ module _ (m : Measures) (ps : List Processor) (lines : List Line) (locks : List 
   meeting q = unless_err refusing (case_of m ps lines locks mem.count q) proceeding
 
   abbrev pub command_rule : Request → Outcome
-  command_rule q = cond (tables_fit m (length lines) (length locks)) (meeting q) (refusing TableLength)
+  command_rule q = if tables_fit m (length lines) (length locks) then meeting q else refusing TableLength

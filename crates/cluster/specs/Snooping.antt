@@ -1,5 +1,5 @@
 -- What a bus command does to the other caches.
-use Rattle.std.specs.Prelude.{ℕ, zero, suc, ◌+◌, cond, List, Some, None, Option, ◌==◌, slice_index_or, slice_set}
+use Rattle.std.specs.Prelude.{ℕ, zero, suc, ◌+◌, if◌then◌else◌, List, Some, None, Option, ◌==◌, slice_index_or, slice_set}
 use Rattle.protocol.specs.declared.command.BusCommand.{BusCommand}
 use Rattle.protocol.specs.declared.measures.Measures.{Measures}
 use Rattle.protocol.specs.declared.line.Line.{Line}
@@ -18,7 +18,7 @@ cache_snooped m bus block processor lines = snooped_at bus lines (line_of m line
 
 abbrev pub other_snooped : Measures → BusCommand → ℕ → ℕ → ℕ → List Line → List Line
 other_snooped m bus asking block processor lines =
-    cond (processor == asking) lines (cache_snooped m bus block processor lines)
+    if processor == asking then lines else cache_snooped m bus block processor lines
 
 -- cache by cache, all but the asking one's
 abbrev pub snooped_from : Measures → BusCommand → ℕ → ℕ → ℕ → ℕ → List Line → List Line

@@ -1,5 +1,5 @@
 -- What the answer of a command makes of a hold.
-use Rattle.std.specs.Prelude.{ℕ, Bool, true, false, cond, List, [], ◌∷◌, Ok, Err, Result, ◌==◌}
+use Rattle.std.specs.Prelude.{ℕ, Bool, true, false, if◌then◌else◌, List, [], ◌∷◌, Ok, Err, Result, ◌==◌}
 use Rattle.protocol.specs.declared.answer.Answer.{Answer}
 use Rattle.protocol.specs.declared.answer.Answer.TheVariants.{Done, Wait}
 use Rattle.protocol.specs.declared.command.Command.{Command}
@@ -32,7 +32,7 @@ ends (Err refusal) = number_of refusal == 8
 
 -- every other answer gives it back
 abbrev pub released : Hold → Result Answer Refusal → Released
-released hold answer = cond (ends answer) (Ended answer) (Back hold answer)
+released hold answer = if ends answer then Ended answer else Back hold answer
 
 abbrev pub answer_of : Released → Result Answer Refusal
 answer_of (Ended answer) = answer

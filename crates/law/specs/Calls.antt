@@ -1,5 +1,5 @@
 -- Calls on a cluster, its tables and a memory, one after another.
-use Rattle.std.specs.Prelude.{ℕ, cond, List, Ok, Err, Option, Result}
+use Rattle.std.specs.Prelude.{ℕ, if◌then◌else◌, List, Ok, Err, Option, Result}
 use Rattle.protocol.specs.declared.answer.Answer.{Answer}
 use Rattle.protocol.specs.declared.command.Request.{Request}
 use Rattle.protocol.specs.declared.line.Line.{Line}
@@ -47,7 +47,7 @@ module _ (m : Measures) where
   abbrev pub said_by : Board → Call → Said
   said_by b (command q) = answered (command_on b q).answer
   said_by b drain = drained (drain_on b).answer
-  said_by b census = counted (cond (lines_fit m b.lines) (Ok (census_of m b.lines)) (Err TableLength))
+  said_by b census = counted (if lines_fit m b.lines then Ok (census_of m b.lines) else Err TableLength)
   said_by b (question address) = told (question_rule m b.locks address)
 
   abbrev pub left_by : Board → Call → Board

@@ -1,5 +1,5 @@
 -- The memory over a table of words.
-use Rattle.std.specs.Prelude.{ℕ, ◌+◌, ◌*◌, ◌/◌, ◌%◌, ◌≤◌, Bool, true, cond, ◌&&◌, List, [], ◌∷◌, length, ◌==◌, nat_le, slice_index, refl}
+use Rattle.std.specs.Prelude.{ℕ, ◌+◌, ◌*◌, ◌/◌, ◌%◌, ◌≤◌, Bool, true, if◌then◌else◌, ◌&&◌, List, [], ◌∷◌, length, ◌==◌, nat_le, slice_index, refl}
 use Rattle.std.proofs.Common.{arith, leb-true}
 use Rattle.std.proofs.lemmas.Bool.{and_parts, cond_both}
 use Rattle.memory.specs.Meaning.{Mem, Lawful}
@@ -9,7 +9,7 @@ fit n = n % 4 == 0 && nat_le n 4194304
 
 -- a table of unfit length has no blocks
 abbrev pub blocks_in : ℕ → ℕ
-blocks_in n = cond (fit n) (n / 4) 0
+blocks_in n = if fit n then n / 4 else 0
 
 abbrev pub block_in : List ℕ → ℕ → List ℕ
 block_in ws block =

@@ -1,5 +1,5 @@
 -- What a run keeps, in the words of its rule.
-use Rattle.std.specs.Prelude.{◌≡◌, ℕ, ◌+◌, ◌<◌, ◌≤◌, Bool, cond, ◌&&◌, List, length, Some, None, Option, Result, nat_le, nat_lt, slice_index, slice_set}
+use Rattle.std.specs.Prelude.{◌≡◌, ℕ, ◌+◌, ◌<◌, ◌≤◌, Bool, if◌then◌else◌, ◌&&◌, List, length, Some, None, Option, Result, nat_le, nat_lt, slice_index, slice_set}
 use Rattle.std.specs.Option.{option_map}
 use Rattle.protocol.specs.declared.answer.Answer.{Answer}
 use Rattle.protocol.specs.declared.line.Line.{Line}
@@ -69,7 +69,7 @@ Earliest waits next count (Some p) =
 -- a processor whose record is finished goes on to its next one
 abbrev pub next_after : List ℕ → List ℕ → ℕ → ℕ → Result Answer Refusal → List ℕ
 next_after bytes next processor index answer =
-    cond (finishes_record answer) (slice_set next processor (next_of processor (index + 1) bytes)) next
+    if finishes_record answer then slice_set next processor (next_of processor (index + 1) bytes) else next
 
 -- a run on its way: so many steps are enough, and they lead to the end that it had at first
 pub record Going (m : Measures) (records : List Record) (first now : Running) (fuel : ℕ) : Type 0 where

@@ -1,5 +1,5 @@
 -- The listing of a trace, byte for byte.
-use Rattle.std.specs.Prelude.{ℕ, cond, List, [], ◌∷◌, ◌++◌, length, replicate, Ok, Err, Result, nat_lt}
+use Rattle.std.specs.Prelude.{ℕ, if◌then◌else◌, List, [], ◌∷◌, ◌++◌, length, replicate, Ok, Err, Result, nat_lt}
 use Rattle.protocol.specs.declared.measures.Measures.{Measures}
 use Rattle.protocol.specs.declared.refusal.Refusal.{Refusal}
 use Rattle.protocol.specs.declared.refusal.Refusal.TheVariants as refusal
@@ -35,4 +35,4 @@ listed (Err refusal) = refusal_line refusal
 
 -- an input of over 65,536 bytes counts as one with a wrong trailer
 abbrev pub listing_of : List ℕ → List ℕ
-listing_of input = cond (nat_lt 65536 (length input)) (refusal_line refusal.Trailer) (listed (trace_of input))
+listing_of input = if nat_lt 65536 (length input) then refusal_line refusal.Trailer else listed (trace_of input)

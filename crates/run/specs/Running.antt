@@ -1,5 +1,5 @@
 -- A run: the records of a trace issued one after another over a cluster, its tables and a memory.
-use Rattle.std.specs.Prelude.{◌≡◌, ℕ, zero, suc, ◌+◌, ◌*◌, Bool, cond, not, ◌&&◌, List, [], ◌∷◌, length, is_some, None, Ok, Err, Option, Result, ◌==◌, nat_lt, slice_index_or}
+use Rattle.std.specs.Prelude.{◌≡◌, ℕ, zero, suc, ◌+◌, ◌*◌, Bool, if◌then◌else◌, not, ◌&&◌, List, [], ◌∷◌, length, is_some, None, Ok, Err, Option, Result, ◌==◌, nat_lt, slice_index_or}
 use Rattle.protocol.specs.declared.command.Command.TheVariants.{R}
 use Rattle.protocol.specs.declared.command.Request.{Request}
 use Rattle.protocol.specs.declared.line.Line.{Line}
@@ -38,7 +38,7 @@ request_at records i = (slice_index_or records i no_record).request
 -- how many of `count` numbers from `from` on pass the test
 abbrev pub how_many : (ℕ → Bool) → ℕ → ℕ → ℕ
 how_many test from zero = 0
-how_many test from (suc count) = cond (test from) 1 0 + how_many test (from + 1) count
+how_many test from (suc count) = (if test from then 1 else 0) + how_many test (from + 1) count
 
 module _ (m : Measures) (records : List Record) where
   -- the record is unfinished and its processor does not wait
@@ -140,7 +140,7 @@ module _ (m : Measures) (ps : List Processor) (lines : List Line) (locks : List 
   ran_trace (Err refusal) = not_run refusal
 
   unfoldable pub run_rule : List ℕ → Ran
-  run_rule bytes = cond (tables_fit m (length lines) (length locks)) (ran_trace (trace_of bytes)) (not_run TableLength)
+  run_rule bytes = if tables_fit m (length lines) (length locks) then ran_trace (trace_of bytes) else not_run TableLength
 
   -- no record is due any more at the end
   abbrev pub Ended : Result Content Refusal → Type 0

@@ -1,5 +1,5 @@
 -- The lines of a listing, byte for byte.
-use Rattle.std.specs.Prelude.{ℕ, cond, List, [], ◌∷◌, ◌++◌, Ok, Err, codes, Result, nat_lt}
+use Rattle.std.specs.Prelude.{ℕ, if◌then◌else◌, List, [], ◌∷◌, ◌++◌, Ok, Err, codes, Result, nat_lt}
 use Rattle.protocol.specs.declared.answer.Answer.{Answer}
 use Rattle.protocol.specs.declared.answer.Answer.TheVariants.{Done, Wait}
 use Rattle.protocol.specs.declared.refusal.Refusal.{Refusal}
@@ -47,7 +47,7 @@ line_of step =
 
 -- STUCK only where records are left
 abbrev pub stuck_line : ℕ → List ℕ
-stuck_line left = cond (nat_lt 0 left) (field (codes "STUCK") ++ last_field (fixed 10 7 left)) []
+stuck_line left = if nat_lt 0 left then field (codes "STUCK") ++ last_field (fixed 10 7 left) else []
 
 unfoldable pub summary_lines : Summary → List ℕ
 summary_lines s =

@@ -1,5 +1,5 @@
 -- The trace that bytes are: a note, records, and a trailer of eight bytes.
-use Rattle.std.specs.Prelude.{ℕ, zero, suc, ◌+◌, ◌-◌, ◌*◌, ◌%◌, Bool, cond, ◌&&◌, List, [], ◌∷◌, length, take, drop, Some, None, Ok, Err, Option, Result, ◌==◌, nat_le, nat_lt, slice_index}
+use Rattle.std.specs.Prelude.{ℕ, zero, suc, ◌+◌, ◌-◌, ◌*◌, ◌%◌, Bool, if◌then◌else◌, ◌&&◌, List, [], ◌∷◌, length, take, drop, Some, None, Ok, Err, Option, Result, ◌==◌, nat_le, nat_lt, slice_index}
 use Rattle.std.specs.Option.{unwrap_or}
 use Rattle.protocol.specs.declared.refusal.Refusal.{Refusal}
 use Rattle.protocol.specs.declared.refusal.Refusal.TheVariants as refusal
@@ -18,11 +18,10 @@ lawful room t =
 abbrev pub trailer_at : List ℕ → ℕ → Option Trailer
 trailer_at bytes end =
     let given : Trailer = record { size = number_at bytes end; processors = slice_index bytes (end + 5) } in
-    cond (slice_index bytes (end + 4) == 1 && slice_index bytes (end + 6) == 0 && slice_index bytes (end + 7) == 0 && lawful end given)
-    (Some given) None
+    if slice_index bytes (end + 4) == 1 && slice_index bytes (end + 6) == 0 && slice_index bytes (end + 7) == 0 && lawful end given then Some given else None
 
 abbrev pub trailer_of : List ℕ → Option Trailer
-trailer_of bytes = cond (nat_lt (length bytes) 8) None (trailer_at bytes (length bytes - 8))
+trailer_of bytes = if nat_lt (length bytes) 8 then None else trailer_at bytes (length bytes - 8)
 
 -- a record of one of the processors, not stamped before the one in front of it
 abbrev pub follows : ℕ → ℕ → Record → Bool
@@ -35,7 +34,7 @@ when_some (Some x) f other = f x
 
 abbrev pub lawful_record : ℕ → ℕ → List ℕ → Option Record
 lawful_record processors stamp bytes =
-    when_some (decoded bytes) (λ r. cond (follows processors stamp r) (Some r) None) None
+    when_some (decoded bytes) (λ r. if follows processors stamp r then Some r else None) None
 
 -- the index of the first of n records that breaks a rule, if one does
 abbrev pub wrong_from : ℕ → ℕ → ℕ → ℕ → List ℕ → Option ℕ

@@ -1,6 +1,6 @@
 -- Writing a trace into an output: opened, records put one after another, closed.
 use Prim.{Unit, tt}
-use Rattle.std.specs.Prelude.{◌≡◌, ℕ, ◌+◌, ◌-◌, ◌*◌, ◌≤◌, cond, ◌&&◌, List, [], ◌∷◌, ◌++◌, length, take, drop, Some, None, Ok, Err, Option, Result, nat_le, nat_lt, flat_map}
+use Rattle.std.specs.Prelude.{◌≡◌, ℕ, ◌+◌, ◌-◌, ◌*◌, ◌≤◌, if◌then◌else◌, ◌&&◌, List, [], ◌∷◌, ◌++◌, length, take, drop, Some, None, Ok, Err, Option, Result, nat_le, nat_lt, flat_map}
 use Rattle.protocol.specs.declared.refusal.Refusal.{Refusal}
 use Rattle.protocol.specs.declared.refusal.Refusal.TheVariants as refusal
 use Rattle.trace.specs.declared.record.Record.{Record}
@@ -17,9 +17,7 @@ trailer_bytes size processors = number_bytes size ++ (1 ∷ (processors ∷ (0 �
 
 abbrev pub open_answer : List ℕ → ℕ → Result (Unit {0}) Refusal
 open_answer output processors =
-    cond (nat_le 1 processors && nat_le processors 8)
-    (cond (nat_le 8 (length output)) (Ok tt) (Err refusal.Output))
-    (Err refusal.Trailer)
+    if nat_le 1 processors && nat_le processors 8 then (if nat_le 8 (length output) then Ok tt else Err refusal.Output) else Err refusal.Trailer
 
 -- what a put answers, the number of records and the last stamp behind it, and the output
 pub record Put : Type 0 where
@@ -31,9 +29,7 @@ pub record Put : Type 0 where
 -- why a record is not put into an output of a length, if it is not
 abbrev pub put_refusal : ℕ → ℕ → ℕ → ℕ → Record → Option Refusal
 put_refusal processors count stamp long r =
-    cond (follows processors stamp r && nat_lt count 1048576)
-    (cond (nat_le (count * 16 + 24) long) None (Some refusal.Output))
-    (Some (refusal.Record count))
+    if follows processors stamp r && nat_lt count 1048576 then (if nat_le (count * 16 + 24) long then None else Some refusal.Output) else Some (refusal.Record count)
 
 abbrev pub put_rule : ℕ → ℕ → ℕ → List ℕ → Record → Put
 put_rule processors count stamp output r =
@@ -48,8 +44,7 @@ pub record Closed : Type 0 where
 
 abbrev pub close_rule : ℕ → ℕ → List ℕ → Closed
 close_rule processors count output =
-    cond (nat_lt (length output) (count * 16 + 8)) (record { answer = Err refusal.Output; output = output })
-    (record { answer = Ok (count * 16 + 8); output = written output (count * 16) (trailer_bytes (count * 16) processors) })
+    if nat_lt (length output) (count * 16 + 8) then record { answer = Err refusal.Output; output = output } else record { answer = Ok (count * 16 + 8); output = written output (count * 16) (trailer_bytes (count * 16) processors) }
 
 abbrev pub last_stamp : ℕ → List Record → ℕ
 last_stamp stamp [] = stamp
@@ -67,8 +62,7 @@ abbrev copied : List ℕ → List ℕ → Result Content Refusal → Closed
 copied input output (Err e) = record { answer = Err e; output = output }
 copied input output (Ok trace) =
     let long = length trace.records * 16 + 8 in
-    cond (nat_lt (length output) long) (record { answer = Err refusal.Output; output = output })
-    (record { answer = Ok long; output = written output 0 (drop (length input - long) input) })
+    if nat_lt (length output) long then record { answer = Err refusal.Output; output = output } else record { answer = Ok long; output = written output 0 (drop (length input - long) input) }
 
 abbrev pub copy_rule : List ℕ → List ℕ → Closed
 copy_rule input output = copied input output (trace_of input)

@@ -1,5 +1,5 @@
 -- The census: how many lines of each processor are in each state.
-use Rattle.std.specs.Prelude.{ℕ, zero, suc, ◌+◌, ◌-◌, Bool, cond, List, [], ◌∷◌, length, take, drop, count_by, replicate, ◌==◌, nat_lt, slice_index}
+use Rattle.std.specs.Prelude.{ℕ, zero, suc, ◌+◌, ◌-◌, Bool, if◌then◌else◌, List, [], ◌∷◌, length, take, drop, count_by, replicate, ◌==◌, nat_lt, slice_index}
 use Rattle.protocol.specs.declared.line.Line.{Line}
 use Rattle.protocol.specs.declared.measures.Measures.{Measures}
 use Rattle.protocol.specs.declared.state.State.{State}
@@ -27,7 +27,7 @@ cache_of m lines processor = take (first_line m (processor + 1) - first_line m p
 
 -- a processor that the geometry does not have has a row of zeros
 unfoldable pub row_at : Measures → List Line → ℕ → List ℕ
-row_at m lines processor = cond (nat_lt processor m.processors) (row_of (cache_of m lines processor)) (replicate 5 0)
+row_at m lines processor = if nat_lt processor m.processors then row_of (cache_of m lines processor) else replicate 5 0
 
 abbrev pub rows_from : Measures → List Line → ℕ → ℕ → List (List ℕ)
 rows_from m lines processor zero = []

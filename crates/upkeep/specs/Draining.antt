@@ -1,5 +1,5 @@
 -- The drain: each modified line is written back, and every line becomes I.
-use Rattle.std.specs.Prelude.{ℕ, ◌+◌, ◌*◌, cond, List, [], ◌∷◌, Ok, Err, Result}
+use Rattle.std.specs.Prelude.{ℕ, ◌+◌, ◌*◌, if◌then◌else◌, List, [], ◌∷◌, Ok, Err, Result}
 use Rattle.protocol.specs.declared.line.Line.{Line}
 use Rattle.protocol.specs.declared.measures.Measures.{Measures}
 use Rattle.protocol.specs.declared.refusal.Direction.TheVariants.{Write}
@@ -14,10 +14,10 @@ use Rattle.upkeep.specs.Counting.{lines_fit}
 -- how many blocks a line gives to memory, or that memory refuses it
 abbrev pub written_back : Mem → Line → Result ℕ Refusal
 written_back mem line =
-    cond (modified line.state) (cond (grants mem line.block) (Ok 1) (Err (Memory line.block Write))) (Ok 0)
+    if modified line.state then (if grants mem line.block then Ok 1 else Err (Memory line.block Write)) else Ok 0
 
 abbrev pub memory_back : Mem → Line → Mem
-memory_back mem line = cond (modified line.state) (written mem line.block line.words) mem
+memory_back mem line = if modified line.state then written mem line.block line.words else mem
 
 -- the blocks written, or why it stopped; and the lines and the memory then
 pub record Drain : Type 0 where
@@ -53,6 +53,4 @@ pub record DrainOutcome : Type 0 where
 unfoldable pub drain_rule : Measures → List Line → Mem → DrainOutcome
 drain_rule m lines mem =
     let d = drain_from 0 lines mem in
-    cond (lines_fit m lines)
-    (record { answer = costed m d.answer; lines = d.lines; memory = d.memory })
-    (record { answer = Err TableLength; lines = lines; memory = mem })
+    if lines_fit m lines then record { answer = costed m d.answer; lines = d.lines; memory = d.memory } else record { answer = Err TableLength; lines = lines; memory = mem }

@@ -1,5 +1,5 @@
 -- The lock question: who holds an address.
-use Rattle.std.specs.Prelude.{ℕ, Bool, cond, List, length, is_some, Ok, Err, Option, Result, ◌==◌}
+use Rattle.std.specs.Prelude.{ℕ, Bool, if◌then◌else◌, List, length, is_some, Ok, Err, Option, Result, ◌==◌}
 use Rattle.protocol.specs.declared.lock.LockEntry.{LockEntry}
 use Rattle.protocol.specs.declared.measures.Measures.{Measures}
 use Rattle.protocol.specs.declared.refusal.Refusal.{Refusal}
@@ -16,4 +16,4 @@ abbrev pub holder_of : Measures → List LockEntry → ℕ → Option ℕ
 holder_of m locks address = lowest_from (holds m locks address) 0 m.processors
 
 abbrev pub question_rule : Measures → List LockEntry → ℕ → Result (Option ℕ) Refusal
-question_rule m locks address = cond (length locks == lock_count m) (Ok (holder_of m locks address)) (Err TableLength)
+question_rule m locks address = if length locks == lock_count m then Ok (holder_of m locks address) else Err TableLength
