@@ -2,6 +2,7 @@
 ghost use Rattle.std.specs.Prelude.{◌≡◌, ◌≤◌, length, IfOk, if◌then◌else◌, Ok, Err, ◌==◌};
 ghost use Rattle.protocol.specs.Answers.{cycles_in};
 ghost use Rattle.protocol.specs.Places.{line_count, lock_count};
+ghost use Rattle.cluster.specs.Board.{board_of};
 ghost use Rattle.cluster.specs.Making.{tables_fit};
 ghost use Rattle.cluster.specs.Rule.{command_rule};
 ghost use Rattle.cluster.specs.Waiting.{WaitsMore, FewerIdle};
@@ -19,7 +20,9 @@ use protocol::refusal::Refusal;
 impl Cluster {
     // Refuses a line table of wrong length with 2.
     pub fn check_lines(&self, lines: &[Line]) -> Result<(), Refusal>
-        ensures { result ≡ (if length lines.now == line_count self.now.geometry.measures then Ok tt else Err Refusal.TableLength) }
+        ensures {
+            let fits = length lines.now == line_count self.now.geometry.measures in
+            result ≡ (if fits then Ok tt else Err Refusal.TableLength) }
     {
         if lines.len() != self.geometry.line_count() {
             return Err(Refusal::TableLength);
@@ -29,7 +32,9 @@ impl Cluster {
 
     // Refuses a lock table of wrong length with 2.
     pub fn check_locks(&self, locks: &[LockEntry]) -> Result<(), Refusal>
-        ensures { result ≡ (if length locks.now == lock_count self.now.geometry.measures then Ok tt else Err Refusal.TableLength) }
+        ensures {
+            let fits = length locks.now == lock_count self.now.geometry.measures in
+            result ≡ (if fits then Ok tt else Err Refusal.TableLength) }
     {
         if locks.len() != self.geometry.lock_count() {
             return Err(Refusal::TableLength);
@@ -38,7 +43,9 @@ impl Cluster {
     }
 
     pub fn check_tables(&self, lines: &[Line], locks: &[LockEntry]) -> Result<(), Refusal>
-        ensures { result ≡ (if tables_fit self.now.geometry.measures (length lines.now) (length locks.now) then Ok tt else Err Refusal.TableLength) }
+        ensures {
+            let fits = tables_fit self.now.geometry.measures (length lines.now) (length locks.now) in
+            result ≡ (if fits then Ok tt else Err Refusal.TableLength) }
     {
         self.check_lines(lines)?;
         self.check_locks(locks)
@@ -53,15 +60,19 @@ impl Cluster {
         memory: &mut M,
         request: Request,
     ) -> Result<Answer, Refusal>
-        ensures answer { result ≡ (command_rule self.old.geometry.measures self.old.processors lines.old locks.old (M.Memory.model memory.old) request).answer }
-        ensures processors { self.new.processors ≡ (command_rule self.old.geometry.measures self.old.processors lines.old locks.old (M.Memory.model memory.old) request).processors }
-        ensures lines { lines.new ≡ (command_rule self.old.geometry.measures self.old.processors lines.old locks.old (M.Memory.model memory.old) request).lines }
-        ensures locks { locks.new ≡ (command_rule self.old.geometry.measures self.old.processors lines.old locks.old (M.Memory.model memory.old) request).locks }
-        ensures memory { M.Memory.model memory.new ≡ (command_rule self.old.geometry.measures self.old.processors lines.old locks.old (M.Memory.model memory.old) request).memory }
+        ensures answer {
+            let before = board_of self.old lines.old locks.old (M.Memory.model memory.old) in
+            result ≡ (command_rule self.old.geometry.measures before request).answer }
+        ensures board {
+            let before = board_of self.old lines.old locks.old (M.Memory.model memory.old) in
+            board_of self.new lines.new locks.new (M.Memory.model memory.new)
+            ≡ (command_rule self.old.geometry.measures before request).board }
         ensures geometry { self.new.geometry ≡ self.old.geometry }
         ensures kept { M.Memory.standing memory.new ≡ M.Memory.standing memory.old }
         ensures waiting { WaitsMore result self.old.processors self.new.processors }
-        ensures idle { FewerIdle self.old.geometry.measures.processors result self.old.processors self.new.processors }
+        ensures idle {
+            let count = self.old.geometry.measures.processors in
+            FewerIdle count result self.old.processors self.new.processors }
         ensures cost { IfOk result (λ a. cycles_in a ≤ 4000) }
     {
         self.check_tables(lines, locks)?;

@@ -1,6 +1,8 @@
 // Making a cluster and its lent tables new.
-ghost use Rattle.std.specs.Prelude.{◌≡◌, length, replicate, if◌then◌else◌, Ok, Err};
-ghost use Rattle.cluster.specs.Making.{all_resting, tables_fit, new_geometry, new_processors, new_lines, new_locks};
+ghost use Rattle.std.specs.Prelude.{◌≡◌, is_ok, if◌then◌else◌};
+ghost use Rattle.memory.specs.Meaning.{Mem};
+ghost use Rattle.cluster.specs.Board.{board_of, making_rule};
+ghost use Rattle.cluster.specs.Making.{all_resting};
 ghost use Rattle.cluster.specs.Waiting.{awaited};
 
 use crate::cluster::{Cluster, Processor};
@@ -44,11 +46,13 @@ impl Cluster {
         lines: &mut [Line],
         locks: &mut [LockEntry],
     ) -> Result<(), Refusal>
-        ensures answer { result ≡ (if tables_fit geometry.measures (length lines.old) (length locks.old) then Ok tt else Err Refusal.TableLength) }
-        ensures geometry { self.new.geometry ≡ new_geometry geometry lines.old locks.old self.old.geometry }
-        ensures processors { self.new.processors ≡ new_processors geometry lines.old locks.old self.old.processors }
-        ensures lines { lines.new ≡ new_lines geometry lines.old locks.old }
-        ensures locks { locks.new ≡ new_locks geometry lines.old locks.old }
+        ensures answer { (mem : Mem) →
+            let before = board_of self.old lines.old locks.old mem in
+            result ≡ (making_rule geometry.measures before).answer }
+        ensures board { (mem : Mem) →
+            let before = board_of self.old lines.old locks.old mem in
+            board_of self.new lines.new locks.new mem ≡ (making_rule geometry.measures before).board }
+        ensures geometry { self.new.geometry ≡ (if is_ok result then geometry else self.old.geometry) }
     {
         let new = Cluster::at_rest(geometry);
         new.check_tables(lines, locks)?;
