@@ -2,8 +2,9 @@
 use Rattle.std.proofs.Common.{List, [], ◌∷◌, ◌++◌, sym, subst}
 use Rattle.protocol.specs.declared.geometry.Geometry.{Geometry}
 use Rattle.protocol.specs.declared.measures.Measures.{Measures}
-use Rattle.law.specs.Accounts.{Throughout, left_along, ledger_along, new_board}
-use Rattle.law.specs.Calls.{Call, Board, said_by, left_by}
+use Rattle.cluster.specs.Board.{Board, new_board}
+use Rattle.law.specs.Accounts.{Throughout, left_along, ledger_along}
+use Rattle.law.specs.Calls.{Call, said_by, left_by}
 use Rattle.law.specs.Law.{Law}
 use Rattle.law.specs.Ledger.{Ledger, opened, fed}
 use Rattle.law.specs.Along.{LawAlong}

@@ -3,6 +3,7 @@ use Rattle.std.proofs.Common.{◌≡◌, ℕ, zero, suc, ◌+◌, ◌/◌, ◌%�
 use Rattle.std.proofs.lemmas.List.{get_or-set_same, get_or-set_other}
 use Rattle.std.proofs.lemmas.Bool.{cond_both, leb-false}
 use Rattle.std.proofs.lemmas.Bool.Decides.{eqb_tells, nat_tests}
+use Rattle.protocol.specs.declared.answer.Answer.{Answer}
 use Rattle.protocol.specs.declared.command.Command.{Command}
 use Rattle.protocol.specs.declared.command.Command.TheVariants.{R, W, DW, RI, RP, RB, LR, UW, U}
 use Rattle.protocol.specs.declared.command.Request.{Request}
@@ -11,6 +12,7 @@ use Rattle.protocol.specs.declared.lock.LockEntry.{LockEntry}
 use Rattle.protocol.specs.declared.measures.Measures.{Measures}
 use Rattle.protocol.specs.declared.table.Effect.{Effect}
 use Rattle.memory.specs.Meaning.{Mem}
+use Rattle.cluster.specs.Board.{Board, Outcome}
 use Rattle.cluster.specs.declared.case.Case.{Case}
 use Rattle.cluster.specs.declared.cluster.Processor.{Processor}
 use Rattle.cluster.specs.declared.ways.Taken.{Taken}
@@ -19,7 +21,7 @@ use Rattle.cluster.specs.Finishing.{turns_after, processors_after, way_taken}
 use Rattle.cluster.specs.Locks.{free_entry}
 use Rattle.cluster.specs.Making.{resting}
 use Rattle.cluster.specs.Refusing.{entry_used}
-use Rattle.cluster.specs.Rule.{Outcome, waiting}
+use Rattle.cluster.specs.Rule.{waiting}
 use Rattle.cluster.specs.Settling.{releases_lock, ul_sent}
 use Rattle.cluster.specs.Tables.{map_from}
 use Rattle.cluster.specs.Waiting.{awaited_in, waiting_for, waits_for, woken, turn_raised}
@@ -107,14 +109,14 @@ ul_quiet m locks q LR e = rw e (by_entry (free_entry m locks q.processor))
 ul_quiet m locks q (UW word) e = refl
 ul_quiet m locks q U e = refl
 
-module _ (m : Measures) (ps : List Processor) (lines : List Line) (locks : List LockEntry) (mem : Mem) (q : Request) (l : Ledger)
-    (eight : length ps ≡ 8) (few : m.processors ≤ 8) (agree : (r : ℕ) → awaited_in m ps r ≡ l.waits r) where
+module _ (m : Measures) (board : Board) (q : Request) (l : Ledger)
+    (eight : length board.processors ≡ 8) (few : m.processors ≤ 8) (agree : (r : ℕ) → awaited_in m board.processors r ≡ l.waits r) where
   abbrev listed : List Processor → ℕ → Option ℕ
   listed xs r = cond (ltb r m.processors) (wait_at xs r) None
 
   wakes_listed : (b : Bool) (block r : ℕ)
-      → cond (ltb r m.processors) (cond b (wake block (wait_at ps r)) (wait_at ps r)) None ≡ cond b (wake block (listed ps r)) (listed ps r)
-  wakes_listed b block r = by_bools b (ltb r m.processors) (wait_at ps r)
+      → cond (ltb r m.processors) (cond b (wake block (wait_at board.processors r)) (wait_at board.processors r)) None ≡ cond b (wake block (listed board.processors r)) (listed board.processors r)
+  wakes_listed b block r = by_bools b (ltb r m.processors) (wait_at board.processors r)
     where
       by_bools : (b k : Bool) (w : Option ℕ) → cond k (cond b (wake block w) w) None ≡ cond b (wake block (cond k w None)) (cond k w None)
       by_bools true true w = refl
@@ -122,42 +124,42 @@ module _ (m : Measures) (ps : List Processor) (lines : List Line) (locks : List 
       by_bools false true w = refl
       by_bools false false w = refl
 
-  by_done : (c : Case) (taken : Option Taken) (effect : Effect) → c ≡ met m ps lines locks mem q effect → (r : ℕ)
-      → awaited_in m (processors_after m ps locks c taken) r
-      ≡ (done_by q.processor q.address (ul_sent c.command locks c.entry) q.command l).waits r
+  by_done : (c : Case) (taken : Option Taken) (effect : Effect) → c ≡ met m board q effect → (r : ℕ)
+      → awaited_in m (processors_after m board.processors board.locks c taken) r
+      ≡ (done_by q.processor q.address (ul_sent c.command board.locks c.entry) q.command l).waits r
   by_done c taken effect is r =
-      let b = ul_sent q.command locks (entry_used m locks q) in
-      let same : ul_sent c.command locks c.entry ≡ b = ap (λ x. ul_sent x.command locks x.entry) is in
+      let b = ul_sent q.command board.locks (entry_used m board.locks q) in
+      let same : ul_sent c.command board.locks c.entry ≡ b = ap (λ x. ul_sent x.command board.locks x.entry) is in
       let block : c.block ≡ q.address / 4 = ap (λ x. x.block) is in
-      ap (λ w. cond (ltb r m.processors) w None) (at_after m ps locks c taken r)
-      ∙ (λ k. cond (ltb r m.processors) (cond (same k) (wake (block k) (wait_at ps r)) (wait_at ps r)) None)
+      ap (λ w. cond (ltb r m.processors) w None) (at_after m board.processors board.locks c taken r)
+      ∙ (λ k. cond (ltb r m.processors) (cond (same k) (wake (block k) (wait_at board.processors r)) (wait_at board.processors r)) None)
       ∙ wakes_listed b (q.address / 4) r
       ∙ ap (λ w. cond b (wake (q.address / 4) w) w) (agree r)
-      ∙ ap (λ x. cond x (wake (q.address / 4) (l.waits r)) (l.waits r)) (sym (ul_quiet m locks q q.command refl))
+      ∙ ap (λ x. cond x (wake (q.address / 4) (l.waits r)) (l.waits r)) (sym (ul_quiet m board.locks q q.command refl))
       ∙ sym (done_waits l q.command q.processor q.address r b)
       ∙ ap (λ x. (done_by q.processor q.address x q.command l).waits r) (sym same)
 
-  by_wait : (c : Case) (effect : Effect) (holder : ℕ) → c ≡ met m ps lines locks mem q effect → leb m.processors q.processor ≡ false → (r : ℕ)
-      → awaited_in m (waiting m ps lines locks mem c holder).processors r ≡ cond (eqb r q.processor) (Some (q.address / 4)) (l.waits r)
+  by_wait : (c : Case) (effect : Effect) (holder : ℕ) → c ≡ met m board q effect → leb m.processors q.processor ≡ false → (r : ℕ)
+      → awaited_in m (waiting m board c holder).board.processors r ≡ cond (eqb r q.processor) (Some (q.address / 4)) (l.waits r)
   by_wait c effect holder is known r =
       let p = q.processor in
       let low : p < m.processors = leb-false m.processors p known in
-      ap (λ x. awaited_in m (waiting m ps lines locks mem x holder).processors r) is
-      ∙ ap (λ w. cond (ltb r m.processors) w None) (at_set ps p r (waiting_for (get_or ps p resting) (q.address / 4)) (omega (arith, low, few, eight)))
+      ap (λ x. awaited_in m (waiting m board x holder).board.processors r) is
+      ∙ ap (λ w. cond (ltb r m.processors) w None) (at_set board.processors p r (waiting_for (get_or board.processors p resting) (q.address / 4)) (omega (arith, low, few, eight)))
       ∙ by_same r (eqb_tells r p)
       ∙ ap (λ w. cond (eqb r p) (Some (q.address / 4)) w) (agree r)
     where
       by_same : (r : ℕ) → ((eqb r q.processor ≡ true) × (r ≡ q.processor)) ⊎ ((eqb r q.processor ≡ false) × (r ≡ q.processor → ⊥))
-          → cond (ltb r m.processors) (cond (eqb r q.processor) (Some (q.address / 4)) (wait_at ps r)) None
-          ≡ cond (eqb r q.processor) (Some (q.address / 4)) (awaited_in m ps r)
+          → cond (ltb r m.processors) (cond (eqb r q.processor) (Some (q.address / 4)) (wait_at board.processors r)) None
+          ≡ cond (eqb r q.processor) (Some (q.address / 4)) (awaited_in m board.processors r)
       by_same r (inl same) = let low : ltb r m.processors ≡ true = grind (arith, nat_tests, same.1) in rw (low, same.0) refl
       by_same r (inr other) = rw other.0 refl
 
-  pub waits_kept : (o : Outcome) → Shape m ps lines locks mem q o → (r : ℕ) → awaited_in m o.processors r ≡ (command_fed q o.answer l).waits r
-  waits_kept o (refused e is) r = ap (λ x. awaited_in m x.processors r) is ∙ agree r ∙ ap (λ x. (command_fed q x.answer l).waits r) (sym is)
+  pub waits_kept : (o : Outcome Answer) → Shape m board q o → (r : ℕ) → awaited_in m o.board.processors r ≡ (command_fed q o.answer l).waits r
+  waits_kept o (refused e is) r = ap (λ x. awaited_in m x.board.processors r) is ∙ agree r ∙ ap (λ x. (command_fed q x.answer l).waits r) (sym is)
   waits_kept o (waited w) r =
-      ap (λ x. awaited_in m x.processors r) w.is ∙ by_wait w.case w.facts.effect w.blocker w.facts.is w.facts.known r
+      ap (λ x. awaited_in m x.board.processors r) w.is ∙ by_wait w.case w.facts.effect w.blocker w.facts.is w.facts.known r
       ∙ ap (λ x. (command_fed q x.answer l).waits r) (sym w.is)
   waits_kept o (finished f) r =
-      ap (λ x. awaited_in m x.processors r) f.is ∙ by_done f.case (way_taken m ps lines f.case) f.facts.effect f.facts.is r
+      ap (λ x. awaited_in m x.board.processors r) f.is ∙ by_done f.case (way_taken m board.processors board.lines f.case) f.facts.effect f.facts.is r
       ∙ ap (λ x. (command_fed q x.answer l).waits r) (sym f.is)

@@ -10,9 +10,10 @@ use Rattle.protocol.specs.declared.refusal.Refusal.TheVariants.{TableLength, Mem
 use Rattle.protocol.specs.Entries.{valid, modified}
 use Rattle.protocol.specs.Lines.{blank_line}
 use Rattle.memory.specs.Meaning.{Mem, grants, written}
+use Rattle.cluster.specs.Board.{Board, Outcome, refusing}
 use Rattle.upkeep.specs.declared.drain.Drained.{Drained}
 use Rattle.upkeep.specs.Counting.{lines_fit}
-use Rattle.upkeep.specs.Draining.{Drain, DrainOutcome, behind, written_back, memory_back, unless_stopped, drain_from, costed, drain_rule}
+use Rattle.upkeep.specs.Draining.{Drain, behind, written_back, memory_back, unless_stopped, drain_from, costed, drain_rule}
 use Rattle.law.specs.Ledger.{Ledger, block_of, word_at}
 use Rattle.law.proofs.Copied.{copy_valid, words_four}
 use Rattle.law.proofs.Invariant.{at_in, Coherent, Homed, Tied, HolderAlone}
@@ -219,66 +220,68 @@ module _ (m : Measures) (blocks : ℕ) (lines : List Line) (mem : Mem) where
   drained_holder : (l : Ledger) → HolderAlone m (at_in lines) l → HolderAlone m (at_in (drain_from blocks lines mem).lines) l
   drained_holder l h = holder_fewer m (at_in lines) (at_in (drain_from blocks lines mem).lines) (drained_fewer blocks lines mem) l h
 
-module _ (m : Measures) (lines : List Line) (mem : Mem) where
-  abbrev drained_as : DrainOutcome
-  drained_as = let d = drain_from 0 lines mem in record { answer = costed m d.answer; lines = d.lines; memory = d.memory }
+module _ (m : Measures) (board : Board) where
+  abbrev drained_as : Outcome Drained
+  drained_as =
+      let d = drain_from 0 board.lines board.memory in
+      record { answer = costed m d.answer; board = record board { lines = d.lines; memory = d.memory } }
 
-  abbrev not_drained : DrainOutcome
-  not_drained = record { answer = Err TableLength; lines = lines; memory = mem }
+  abbrev not_drained : Outcome Drained
+  not_drained = refusing board TableLength
 
-  drain_way : (drain_rule m lines mem ≡ drained_as) ⊎ (drain_rule m lines mem ≡ not_drained)
+  drain_way : (drain_rule m board ≡ drained_as) ⊎ (drain_rule m board ≡ not_drained)
   unfolding drain_rule
-  drain_way = by_fit (lines_fit m lines)
+  drain_way = by_fit (lines_fit m board.lines)
     where
       by_fit : (b : Bool) → (cond b drained_as not_drained ≡ drained_as) ⊎ (cond b drained_as not_drained ≡ not_drained)
       by_fit true = inl refl
       by_fit false = inr refl
 
   -- what holds of a drain's lines and memory, and of those before it
-  by_way : (P : List Line → Mem → Type 0) → P (drain_from 0 lines mem).lines (drain_from 0 lines mem).memory → P lines mem
-      → P (drain_rule m lines mem).lines (drain_rule m lines mem).memory
+  by_way : (P : List Line → Mem → Type 0) → P (drain_from 0 board.lines board.memory).lines (drain_from 0 board.lines board.memory).memory → P board.lines board.memory
+      → P (drain_rule m board).board.lines (drain_rule m board).board.memory
   by_way P after before = elim drain_way [
-    | inl done ↦ subst (λ o. P o.lines o.memory) (sym done) after
-    | inr unfit ↦ subst (λ o. P o.lines o.memory) (sym unfit) before
+    | inl done ↦ subst (λ o. P o.board.lines o.board.memory) (sym done) after
+    | inr unfit ↦ subst (λ o. P o.board.lines o.board.memory) (sym unfit) before
   ]
 
-  pub rule_coherent : (truth : ℕ → List ℕ) → Coherent (at_in lines) mem.words truth
-      → Coherent (at_in (drain_rule m lines mem).lines) (drain_rule m lines mem).memory.words truth
-  rule_coherent truth c = by_way (λ ls me. Coherent (at_in ls) me.words truth) (drained_coherent truth 0 lines mem c) c
+  pub rule_coherent : (truth : ℕ → List ℕ) → Coherent (at_in board.lines) board.memory.words truth
+      → Coherent (at_in (drain_rule m board).board.lines) (drain_rule m board).board.memory.words truth
+  rule_coherent truth c = by_way (λ ls me. Coherent (at_in ls) me.words truth) (drained_coherent truth 0 board.lines board.memory c) c
 
-  pub rule_homed : Homed m (at_in lines) → Homed m (at_in (drain_rule m lines mem).lines)
-  rule_homed h = by_way (λ ls me. Homed m (at_in ls)) (drained_homed m 0 lines mem h) h
+  pub rule_homed : Homed m (at_in board.lines) → Homed m (at_in (drain_rule m board).board.lines)
+  rule_homed h = by_way (λ ls me. Homed m (at_in ls)) (drained_homed m 0 board.lines board.memory h) h
 
-  pub rule_holder : (l : Ledger) → HolderAlone m (at_in lines) l → HolderAlone m (at_in (drain_rule m lines mem).lines) l
-  rule_holder l h = by_way (λ ls me. HolderAlone m (at_in ls) l) (drained_holder m 0 lines mem l h) h
+  pub rule_holder : (l : Ledger) → HolderAlone m (at_in board.lines) l → HolderAlone m (at_in (drain_rule m board).board.lines) l
+  rule_holder l h = by_way (λ ls me. HolderAlone m (at_in ls) l) (drained_holder m 0 board.lines board.memory l h) h
 
-  pub rule_length : length (drain_rule m lines mem).lines ≡ length lines
-  rule_length = by_way (λ ls me. length ls ≡ length lines) (drained_length 0 lines mem) refl
+  pub rule_length : length (drain_rule m board).board.lines ≡ length board.lines
+  rule_length = by_way (λ ls me. length ls ≡ length board.lines) (drained_length 0 board.lines board.memory) refl
 
-  pub rule_four : (truth : ℕ → List ℕ) → Coherent (at_in lines) mem.words truth → ((b : ℕ) → length (truth b) ≡ 4)
-      → ((b : ℕ) → length (mem.words b) ≡ 4) → (b : ℕ) → length ((drain_rule m lines mem).memory.words b) ≡ 4
+  pub rule_four : (truth : ℕ → List ℕ) → Coherent (at_in board.lines) board.memory.words truth → ((b : ℕ) → length (truth b) ≡ 4)
+      → ((b : ℕ) → length (board.memory.words b) ≡ 4) → (b : ℕ) → length ((drain_rule m board).board.memory.words b) ≡ 4
   unfolding FourEach
   rule_four truth c four all =
       by_way (λ ls me. (b : ℕ) → length (me.words b) ≡ 4)
-      (drained_four 0 lines mem (words_four (at_in lines) mem.words truth c four) all) all
+      (drained_four 0 board.lines board.memory (words_four (at_in board.lines) board.memory.words truth c four) all) all
 
-  rule_memory : (truth : ℕ → List ℕ) → Coherent (at_in lines) mem.words truth → (d : Drained) → (drain_rule m lines mem).answer ≡ Ok d
-      → (block : ℕ) → (drain_rule m lines mem).memory.words block ≡ truth block
+  rule_memory : (truth : ℕ → List ℕ) → Coherent (at_in board.lines) board.memory.words truth → (d : Drained) → (drain_rule m board).answer ≡ Ok d
+      → (block : ℕ) → (drain_rule m board).board.memory.words block ≡ truth block
   rule_memory truth c d h block = elim drain_way [
-    | inl done ↦ ap (λ o. o.memory.words block) done ∙ finished (drain_from 0 lines mem).answer refl (ap (λ o. o.answer) (sym done) ∙ h)
+    | inl done ↦ ap (λ o. o.board.memory.words block) done ∙ finished (drain_from 0 board.lines board.memory).answer refl (ap (λ o. o.answer) (sym done) ∙ h)
     | inr unfit ↦ absurd (false≢true (ap (λ o. is_finished o.answer) (sym unfit) ∙ ap is_finished h))
   ]
     where
-      finished : (r : Result ℕ Refusal) → (drain_from 0 lines mem).answer ≡ r → costed m r ≡ Ok d → (drain_from 0 lines mem).memory.words block ≡ truth block
-      finished (Ok n) e h = drained_memory truth 0 lines mem c n e block
+      finished : (r : Result ℕ Refusal) → (drain_from 0 board.lines board.memory).answer ≡ r → costed m r ≡ Ok d → (drain_from 0 board.lines board.memory).memory.words block ≡ truth block
+      finished (Ok n) e h = drained_memory truth 0 board.lines board.memory c n e block
       finished (Err e) same h = absurd (cc)
 
   -- after a finished drain memory has each word of the ledger
-  pub drains_law : (truth : ℕ → List ℕ) (l : Ledger) → Coherent (at_in lines) mem.words truth → Tied truth l
-      → (d : Drained) → (drain_rule m lines mem).answer ≡ Ok d → (address : ℕ)
-      → IfSome (l.words address) (λ word. word_at (drain_rule m lines mem).memory address ≡ word)
+  pub drains_law : (truth : ℕ → List ℕ) (l : Ledger) → Coherent (at_in board.lines) board.memory.words truth → Tied truth l
+      → (d : Drained) → (drain_rule m board).answer ≡ Ok d → (address : ℕ)
+      → IfSome (l.words address) (λ word. word_at (drain_rule m board).board.memory address ≡ word)
   drains_law truth l c t d h address = by_word (l.words address) refl
     where
-      by_word : (w : Option ℕ) → l.words address ≡ w → IfSome w (λ word. word_at (drain_rule m lines mem).memory address ≡ word)
+      by_word : (w : Option ℕ) → l.words address ≡ w → IfSome w (λ word. word_at (drain_rule m board).board.memory address ≡ word)
       by_word None e = tt
       by_word (Some word) e = ap (λ words. get_or words (address % 4) 0) (rule_memory truth c d h (block_of address)) ∙ t.words address word e

@@ -4,6 +4,7 @@ use Rattle.std.specs.List.{count_by}
 use Rattle.std.proofs.lemmas.List.Sums.{sum_by-set}
 use Rattle.std.proofs.lemmas.Bool.{cond_both, eqb-true, leb-false}
 use Rattle.std.proofs.lemmas.Bool.Decides.{eqb_tells, nat_tests}
+use Rattle.protocol.specs.declared.answer.Answer.{Answer}
 use Rattle.protocol.specs.declared.command.Command.{Command}
 use Rattle.protocol.specs.declared.command.Command.TheVariants.{R, W, DW, RI, RP, RB, LR, UW, U}
 use Rattle.protocol.specs.declared.command.Request.{Request}
@@ -13,11 +14,11 @@ use Rattle.protocol.specs.declared.line.Line.{Line}
 use Rattle.protocol.specs.Finding.{unused, window_of}
 use Rattle.protocol.specs.Places.{locks_start}
 use Rattle.memory.specs.Meaning.{Mem}
+use Rattle.cluster.specs.Board.{Board, Outcome}
 use Rattle.cluster.specs.declared.cluster.Processor.{Processor}
 use Rattle.cluster.specs.Locks.{in_use, locks_from, held_entry, free_entry, waited_at, waited_for}
 use Rattle.cluster.specs.Making.{blank_entry}
 use Rattle.cluster.specs.Refusing.{entry_used}
-use Rattle.cluster.specs.Rule.{Outcome}
 use Rattle.cluster.specs.Settling.{takes_lock, releases_lock, locked_at, locks_settled, ul_sent}
 use Rattle.law.specs.Ledger.{Ledger, command_fed, done_by}
 use Rattle.law.proofs.Entries.{EntryAt, entry_at, locked_seen, unused_seen, held_seen, waited_seen}
@@ -216,19 +217,19 @@ module _ (m : Measures) (locks : List LockEntry) where
     settled (UW word) e x y z p listed a = rw e (released (UW word) refl (held_entry m locks p0 a0) refl z p listed a)
     settled U e x y z p listed a = rw e (released U refl (held_entry m locks p0 a0) refl z p listed a)
 
-module _ (m : Measures) (ps : List Processor) (lines : List Line) (locks : List LockEntry) (mem : Mem) (q : Request) (l : Ledger)
-    (agree : (p : ℕ) → p < m.processors → (a : ℕ) → held_by m locks p a ≡ cond (l.holds p a) 1 0) where
-  pub holds_kept : (o : Outcome) → Shape m ps lines locks mem q o → (p : ℕ) → p < m.processors → (a : ℕ)
-      → held_by m o.locks p a ≡ cond ((command_fed q o.answer l).holds p a) 1 0
+module _ (m : Measures) (board : Board) (q : Request) (l : Ledger)
+    (agree : (p : ℕ) → p < m.processors → (a : ℕ) → held_by m board.locks p a ≡ cond (l.holds p a) 1 0) where
+  pub holds_kept : (o : Outcome Answer) → Shape m board q o → (p : ℕ) → p < m.processors → (a : ℕ)
+      → held_by m o.board.locks p a ≡ cond ((command_fed q o.answer l).holds p a) 1 0
   holds_kept o (refused e is) p listed a =
-      ap (λ x. held_by m x.locks p a) is ∙ agree p listed a ∙ ap (λ x. cond ((command_fed q x.answer l).holds p a) 1 0) (sym is)
+      ap (λ x. held_by m x.board.locks p a) is ∙ agree p listed a ∙ ap (λ x. cond ((command_fed q x.answer l).holds p a) 1 0) (sym is)
   holds_kept o (waited w) p listed a =
-      ap (λ x. held_by m x.locks p a) w.is ∙ kept_waited m locks w.case.processor w.case.block p a ∙ agree p listed a
+      ap (λ x. held_by m x.board.locks p a) w.is ∙ kept_waited m board.locks w.case.processor w.case.block p a ∙ agree p listed a
       ∙ ap (λ x. cond ((command_fed q x.answer l).holds p a) 1 0) (sym w.is)
   holds_kept o (finished f) p listed a =
       let facts = f.facts in
-      ap (λ x. held_by m x.locks p a) f.is
-      ∙ ap (λ c. held_by m (locks_settled c.command c.address locks c.entry) p a) facts.is
-      ∙ settled m locks q l (leb-false m.processors q.processor facts.known) agree q.command refl facts.not_held facts.room facts.held p listed a
-      ∙ ap (λ h. cond h 1 0) (sym (done_holds l q.command q.processor q.address (ul_sent f.case.command locks f.case.entry) p a))
+      ap (λ x. held_by m x.board.locks p a) f.is
+      ∙ ap (λ c. held_by m (locks_settled c.command c.address board.locks c.entry) p a) facts.is
+      ∙ settled m board.locks q l (leb-false m.processors q.processor facts.known) agree q.command refl facts.not_held facts.room facts.held p listed a
+      ∙ ap (λ h. cond h 1 0) (sym (done_holds l q.command q.processor q.address (ul_sent f.case.command board.locks f.case.entry) p a))
       ∙ ap (λ x. cond ((command_fed q x.answer l).holds p a) 1 0) (sym f.is)

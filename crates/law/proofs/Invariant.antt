@@ -6,11 +6,12 @@ use Rattle.protocol.specs.declared.measures.Measures.{Measures}
 use Rattle.protocol.specs.Entries.{valid, modified}
 use Rattle.protocol.specs.Lines.{no_line}
 use Rattle.protocol.specs.Places.{window_start}
+use Rattle.cluster.specs.Board.{Board}
 use Rattle.cluster.specs.Copies.{holds_block}
 use Rattle.cluster.specs.Locks.{somebody_waits}
 use Rattle.cluster.specs.Making.{blank_entry}
 use Rattle.law.specs.Accounts.{Throughout}
-use Rattle.law.specs.Calls.{Call, Board, said_by, left_by}
+use Rattle.law.specs.Calls.{Call, said_by, left_by}
 use Rattle.law.specs.Law.{exclusive, owner}
 use Rattle.law.specs.Ledger.{Ledger, block_of, fed}
 

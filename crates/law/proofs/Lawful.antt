@@ -2,17 +2,18 @@
 use Rattle.std.proofs.Common.{◌≡◌, ℕ, ◌/◌, ◌%◌, ◌<◌, ◌≤◌, Bool, true, false, cond, get_or, replicate, IfSome, Some, None, Option, sym, refl, ◌∙◌, subst}
 use lib.ListN.{length-replicate}
 use Rattle.std.proofs.lemmas.Bool.{false≢true}
+use Rattle.protocol.specs.declared.answer.Answer.{Answer}
 use Rattle.protocol.specs.declared.command.Request.{Request}
 use Rattle.protocol.specs.declared.measures.Measures.{Measures}
 use Rattle.protocol.specs.Entries.{valid}
 use Rattle.protocol.specs.Lines.{blank_line, no_line}
 use Rattle.protocol.specs.Places.{line_count}
 use Rattle.memory.specs.Meaning.{Mem, Lawful}
+use Rattle.cluster.specs.Board.{Board, Outcome, new_board}
 use Rattle.cluster.specs.Copies.{line_of, line_at}
-use Rattle.cluster.specs.Rule.{Outcome, waiting}
+use Rattle.cluster.specs.Rule.{waiting, command_rule}
 use Rattle.upkeep.proofs.Counts.{has_columns}
-use Rattle.law.specs.Accounts.{new_board}
-use Rattle.law.specs.Calls.{Call, command, drain, census, question, Board, command_on, said_by, left_by}
+use Rattle.law.specs.Calls.{Call, command, drain, census, question, said_by, left_by}
 use Rattle.law.specs.Law.{Law, LawHolds, OnDone, owner, reads}
 use Rattle.law.specs.Ledger.{Ledger, opened, fed, command_fed, word_at, block_of}
 use Rattle.law.proofs.Commands.{Settled, settled_done, reads_done}
@@ -57,16 +58,16 @@ module _ (m : Measures) (some_columns : 0 < m.columns) (some_ways : 0 < m.ways) 
       four = w.settled.four;
     }
 
-    settled_command : (q : Request) (o : Outcome) → Shape m b.processors b.lines b.locks b.memory q o → Settled m o.lines o.memory.words (command_fed q o.answer l)
-    settled_command q o (refused e is) = subst (λ x. Settled m x.lines x.memory.words (command_fed q x.answer l)) (sym is) w.settled
+    settled_command : (q : Request) (o : Outcome Answer) → Shape m b q o → Settled m o.board.lines o.board.memory.words (command_fed q o.answer l)
+    settled_command q o (refused e is) = subst (λ x. Settled m x.board.lines x.board.memory.words (command_fed q x.answer l)) (sym is) w.settled
     settled_command q o (waited v) =
-        subst (λ x. Settled m x.lines x.memory.words (command_fed q x.answer l)) (sym v.is)
-        (kept_words (command_fed q (waiting m b.processors b.lines b.locks b.memory v.case v.blocker).answer l) (λ x. refl) (λ p a. refl))
+        subst (λ x. Settled m x.board.lines x.board.memory.words (command_fed q x.answer l)) (sym v.is)
+        (kept_words (command_fed q (waiting m b v.case v.blocker).answer l) (λ x. refl) (λ p a. refl))
     settled_command q o (finished f) =
         settled_done some_columns some_ways w.settled (done f)
         (no_other_holder m b l w.locks.kept w.locks.one w.settled.holder w.locks.listed own_found q o f)
 
-    reads_command : (q : Request) → reads q.command ≡ true → (o : Outcome) → Shape m b.processors b.lines b.locks b.memory q o
+    reads_command : (q : Request) → reads q.command ≡ true → (o : Outcome Answer) → Shape m b q o
         → OnDone o.answer (λ done. IfSome (l.words q.address) (λ word. done.word ≡ word))
     reads_command q r o (refused e is) = subst (λ x. OnDone x.answer (λ done. IfSome (l.words q.address) (λ word. done.word ≡ word))) (sym is) tt
     reads_command q r o (waited v) = subst (λ x. OnDone x.answer (λ done. IfSome (l.words q.address) (λ word. done.word ≡ word))) (sym v.is) tt
@@ -78,16 +79,16 @@ module _ (m : Measures) (some_columns : 0 < m.columns) (some_ways : 0 < m.ways) 
     settled_drain =
         let t = w.settled.truth in
         record {
-          fit = rule_length m b.lines b.memory ∙ w.settled.fit;
-          homed = rule_homed m b.lines b.memory w.settled.homed;
-          truth = record { words = t.words; coherent = rule_coherent m b.lines b.memory t.words t.coherent; tied = t.tied };
-          holder = rule_holder m b.lines b.memory l w.settled.holder;
-          four = rule_four m b.lines b.memory t.words t.coherent t.tied.four w.settled.four;
+          fit = rule_length m b ∙ w.settled.fit;
+          homed = rule_homed m b w.settled.homed;
+          truth = record { words = t.words; coherent = rule_coherent m b t.words t.coherent; tied = t.tied };
+          holder = rule_holder m b l w.settled.holder;
+          four = rule_four m b t.words t.coherent t.tied.four w.settled.four;
         }
 
     next : (call : Call) → Whole m (left_by m b call) (fed call (said_by m b call) l)
     next (command q) = record {
-      settled = settled_command q (command_on m b q) (shape m b.processors b.lines b.locks b.memory q);
+      settled = settled_command q (command_rule m b q) (shape m b q);
       locks = locks_on m b l few w.locks w.settled.holder own_found (command q);
     }
     next drain = record { settled = settled_drain; locks = locks_on m b l few w.locks w.settled.holder own_found drain }
@@ -99,8 +100,8 @@ module _ (m : Measures) (some_columns : 0 < m.columns) (some_ways : 0 < m.ways) 
         let t = w.settled.truth in
         let told = accounts m b l w.locks.kept in
         record {
-          reads_ledger = λ q r. reads_command q r (command_on m b q) (shape m b.processors b.lines b.locks b.memory q);
-          drains_ledger = drains_law m b.lines b.memory t.words l t.coherent t.tied;
+          reads_ledger = λ q r. reads_command q r (command_rule m b q) (shape m b q);
+          drains_ledger = drains_law m b t.words l t.coherent t.tied;
           exclusive_alone = t.coherent.alone;
           copies_agree = λ block i j ci cj. t.coherent.agree block i ci ∙ sym (t.coherent.agree block j cj);
           one_modified = t.coherent.single;

@@ -5,9 +5,9 @@ use Rattle.std.proofs.lemmas.Bool.Decides.{eqb_tells, leb_tells, nat_tests}
 use Rattle.std.specs.Cmp.{both_ways}
 use Rattle.protocol.specs.declared.lock.LockEntry.{LockEntry}
 use Rattle.protocol.specs.declared.measures.Measures.{Measures}
+use Rattle.cluster.specs.Board.{Board}
 use Rattle.cluster.specs.Locks.{in_use, locks_from, locks_block, entry_of, held_entry, has_lock, other_lock, holder_of}
 use Rattle.cluster.specs.Making.{blank_entry}
-use Rattle.law.specs.Calls.{Board}
 use Rattle.law.specs.Law.{locks_in, locked_by_other}
 use Rattle.law.specs.Ledger.{Ledger, block_of}
 use Rattle.law.proofs.Entries.{EntryAt, entry_at, entry_found, locks_at, at_its_address}

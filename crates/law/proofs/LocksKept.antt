@@ -2,6 +2,7 @@
 use Rattle.std.proofs.Common.{◌≡◌, ℕ, ◌/◌, ◌<◌, Bool, true, false, cond, not, ◌&&◌, ◌||◌, ◌⊎◌, List, is_some, Some, None, Option, sym, refl, ap, ◌∙◌, subst, inl, inr}
 use Prim.{tt}
 use Rattle.std.proofs.lemmas.Bool.{leb-false}
+use Rattle.protocol.specs.declared.answer.Answer.{Answer}
 use Rattle.protocol.specs.declared.command.Action.{Action}
 use Rattle.protocol.specs.declared.command.Action.TheVariants as action
 use Rattle.protocol.specs.declared.command.Request.{Request}
@@ -15,14 +16,13 @@ use Rattle.protocol.specs.Acting.{acts_as}
 use Rattle.protocol.specs.Entries.{valid}
 use Rattle.protocol.specs.StateTable.{cell_of}
 use Rattle.memory.specs.Meaning.{Mem}
+use Rattle.cluster.specs.Board.{Board, Outcome}
 use Rattle.cluster.specs.declared.cluster.Processor.{Processor}
 use Rattle.cluster.specs.Copies.{line_of, line_at, supplier_of}
 use Rattle.cluster.specs.Doing.{asks_for_block, lock_hit, is_unlock}
 use Rattle.cluster.specs.Locks.{held_entry, holder_of}
 use Rattle.cluster.specs.Refusing.{is_direct_write}
-use Rattle.cluster.specs.Rule.{Outcome}
 use Rattle.cluster.specs.Settling.{releases_lock, ul_sent}
-use Rattle.law.specs.Calls.{Board}
 use Rattle.law.specs.Law.{WaitsIf, owner, locks_in, locked_by_other}
 use Rattle.law.specs.Ledger.{Ledger, block_of, command_fed, done_by}
 use Rattle.law.proofs.Cells.{acts_unlock}
@@ -73,11 +73,11 @@ hit_by true lk holder p e = ap is_some e
 hit_by false true holder p e = ap is_some e
 hit_by false false holder p e = absurd (cc)
 
-pub held_elsewhere : (m : Measures) (ps : List Processor) (lines : List Line) (locks : List LockEntry) (mem : Mem) (q : Request) (o : Outcome)
-    → Waited m ps lines locks mem q o → is_some (holder_of m locks q.processor (q.address / 4)) ≡ true
-held_elsewhere m ps lines locks mem q o w =
+pub held_elsewhere : (m : Measures) (board : Board) (q : Request) (o : Outcome Answer)
+    → Waited m board q o → is_some (holder_of m board.locks q.processor (q.address / 4)) ≡ true
+held_elsewhere m board q o w =
     let effect = w.facts.effect in
-    hit_by (asks_for_block effect.bus) effect.lk (holder_of m locks q.processor (q.address / 4)) w.blocker (sym (ap lock_hit w.facts.is) ∙ w.hit)
+    hit_by (asks_for_block effect.bus) effect.lk (holder_of m board.locks q.processor (q.address / 4)) w.blocker (sym (ap lock_hit w.facts.is) ∙ w.hit)
 
 not_elsewhere : (d v c h : Bool) → (d && not v && (c || h)) ≡ false → d ≡ true → v ≡ false → h ≡ false
 not_elsewhere true false true h e x y = absurd (cc)
@@ -101,7 +101,7 @@ module _ (m : Measures) (b : Board) (l : Ledger) (k : Kept m b l) (one : OneHold
   abbrev acts : Action
   acts = acts_as q.command q.address found (is_some (supplier_of m b.lines q.processor (q.address / 4)))
 
-  module _ (o : Outcome) (f : Finished m b.processors b.lines b.locks b.memory q o) where
+  module _ (o : Outcome Answer) (f : Finished m b q o) where
     -- a copy of the block, no other's lock in it, or the lock itself
     ways : (valid found ≡ true) ⊎ (is_some holder ≡ false) ⊎ (l.holds q.processor q.address ≡ true)
     ways =
@@ -167,20 +167,20 @@ module _ (m : Measures) (b : Board) (l : Ledger) (k : Kept m b l) (one : OneHold
         by_lock (older held) = listed p a held
         by_lock (newer takes at_p at_a) = subst (λ x. x < m.processors) (sym at_p) (leb-false m.processors q.processor f.facts.known)
 
-  pub waits_law : (o : Outcome) → Shape m b.processors b.lines b.locks b.memory q o → WaitsIf (locked_by_other m l q.processor (block_of q.address)) o.answer
+  pub waits_law : (o : Outcome Answer) → Shape m b q o → WaitsIf (locked_by_other m l q.processor (block_of q.address)) o.answer
   waits_law o (refused e is) = subst (λ x. WaitsIf (locked_by_other m l q.processor (block_of q.address)) x.answer) (sym is) tt
   waits_law o (waited w) =
-      let hit = held_elsewhere m b.processors b.lines b.locks b.memory q o w in
+      let hit = held_elsewhere m b q o w in
       subst (λ x. WaitsIf (locked_by_other m l q.processor (block_of q.address)) x.answer) (sym w.is)
       (sym (holder_is m b l k q.processor (block_of q.address)) ∙ hit)
   waits_law o (finished f) = subst (λ x. WaitsIf (locked_by_other m l q.processor (block_of q.address)) x.answer) (sym f.is) (no_other_lock o f)
 
-  pub one_kept : (o : Outcome) → Shape m b.processors b.lines b.locks b.memory q o → OneHolder (command_fed q o.answer l)
+  pub one_kept : (o : Outcome Answer) → Shape m b q o → OneHolder (command_fed q o.answer l)
   one_kept o (refused e is) = subst (λ x. OneHolder (command_fed q x.answer l)) (sym is) one
   one_kept o (waited w) = subst (λ x. OneHolder (command_fed q x.answer l)) (sym w.is) one
   one_kept o (finished f) = subst (λ x. OneHolder (command_fed q x.answer l)) (sym f.is) (one_done o f)
 
-  pub listed_kept : (o : Outcome) → Shape m b.processors b.lines b.locks b.memory q o → HoldersListed m (command_fed q o.answer l)
+  pub listed_kept : (o : Outcome Answer) → Shape m b q o → HoldersListed m (command_fed q o.answer l)
   listed_kept o (refused e is) = subst (λ x. HoldersListed m (command_fed q x.answer l)) (sym is) listed
   listed_kept o (waited w) = subst (λ x. HoldersListed m (command_fed q x.answer l)) (sym w.is) listed
   listed_kept o (finished f) = subst (λ x. HoldersListed m (command_fed q x.answer l)) (sym f.is) (listed_done o f)

@@ -16,12 +16,13 @@ use Rattle.protocol.specs.Entries.{locked as entry_locked}
 use Rattle.protocol.specs.Finding.{unused}
 use Rattle.protocol.specs.Places.{locks_start}
 use Rattle.memory.specs.Meaning.{Mem}
+use Rattle.cluster.specs.Board.{Board, Outcome}
 use Rattle.cluster.specs.Locks.{in_use, locks_from, locks_block, entry_of, held_entry, free_entry, has_lock, holder_of, own_entry, waited_at, waited_for, waits_on, somebody_waits}
 use Rattle.cluster.specs.Making.{blank_entry}
 use Rattle.cluster.specs.Refusing.{entry_used}
-use Rattle.cluster.specs.Rule.{Outcome}
+use Rattle.cluster.specs.Rule.{command_rule}
 use Rattle.cluster.specs.Settling.{takes_lock, releases_lock, locks_settled, ul_sent}
-use Rattle.law.specs.Calls.{Board, command, command_on, left_by}
+use Rattle.law.specs.Calls.{command, left_by}
 use Rattle.law.specs.Law.{OnDone, locks_in, locked}
 use Rattle.law.specs.Ledger.{Ledger, block_of, opened, waits_in, command_fed, done_by}
 use Rattle.law.proofs.Awaits.{wake, done_waits, ul_quiet}
@@ -196,28 +197,28 @@ module _ (m : Measures) (b : Board) (l : Ledger) (marked : AllMarked b.locks l) 
       let still = still_waits ul block to (l.waits r) waits in
       marked_settled m b.locks q used refl to (marked r to still.0) still.1
 
-  pub marked_kept : (o : Outcome) → Shape m b.processors b.lines b.locks b.memory q o → AllMarked o.locks (command_fed q o.answer l)
-  marked_kept o (refused e is) = subst (λ x. AllMarked x.locks (command_fed q x.answer l)) (sym is) marked
+  pub marked_kept : (o : Outcome Answer) → Shape m b q o → AllMarked o.board.locks (command_fed q o.answer l)
+  marked_kept o (refused e is) = subst (λ x. AllMarked x.board.locks (command_fed q x.answer l)) (sym is) marked
   marked_kept o (waited w) =
-      let hit = held_elsewhere m b.processors b.lines b.locks b.memory q o w in
-      subst (λ x. AllMarked x.locks (command_fed q x.answer l)) (sym w.is)
+      let hit = held_elsewhere m b q o w in
+      subst (λ x. AllMarked x.board.locks (command_fed q x.answer l)) (sym w.is)
       (λ r to e. subst (λ c. Marked (waited_for m b.locks c.processor c.block) to) (sym w.facts.is) (marked_waiting hit r to e))
   marked_kept o (finished f) =
-      subst (λ x. AllMarked x.locks (command_fed q x.answer l)) (sym f.is)
+      subst (λ x. AllMarked x.board.locks (command_fed q x.answer l)) (sym f.is)
       (subst (λ c. AllMarked (locks_settled c.command c.address b.locks c.entry) (done_by q.processor q.address (ul_sent c.command b.locks c.entry) q.command l))
       (sym f.facts.is) marked_done)
 
   -- what a command leaves of a block: without a lock nobody waits
-  wakes_on : m.processors ≤ 8 → Kept m b l → locked m (command_fed q (command_on m b q).answer l) block ≡ false
-      → (r : ℕ) → waits_in block ((command_fed q (command_on m b q).answer l).waits r) ≡ false
+  wakes_on : m.processors ≤ 8 → Kept m b l → locked m (command_fed q (command_rule m b q).answer l) block ≡ false
+      → (r : ℕ) → waits_in block ((command_fed q (command_rule m b q).answer l).waits r) ≡ false
   wakes_on few k =
-      nobody_waits m (left_by m b (command q)) (command_fed q (command_on m b q).answer l) (kept_on m b l few k (command q))
-      (marked_kept (command_on m b q) (shape m b.processors b.lines b.locks b.memory q)) block
+      nobody_waits m (left_by m b (command q)) (command_fed q (command_rule m b q).answer l) (kept_on m b l few k (command q))
+      (marked_kept (command_rule m b q) (shape m b q)) block
 
   pub wakes_law : m.processors ≤ 8 → Kept m b l → releases_lock q.command ≡ true
-      → OnDone (command_on m b q).answer (λ done. let after = command_fed q (Ok (Done done)) l in
+      → OnDone (command_rule m b q).answer (λ done. let after = command_fed q (Ok (Done done)) l in
       locked m after block ≡ false → (r : ℕ) → waits_in block (after.waits r) ≡ false)
-  wakes_law few k releases = by_answer (command_on m b q).answer (wakes_on few k)
+  wakes_law few k releases = by_answer (command_rule m b q).answer (wakes_on few k)
     where
       by_answer : (a : Result Answer Refusal)
           → (locked m (command_fed q a l) block ≡ false → (r : ℕ) → waits_in block ((command_fed q a l).waits r) ≡ false)

@@ -3,7 +3,8 @@ use Rattle.std.specs.Prelude.{◌≡◌, Bool, true, false, not, Ok, Err, Result
 use Rattle.protocol.specs.declared.measures.Measures.{Measures}
 use Rattle.protocol.specs.declared.refusal.Refusal.{Refusal}
 use Rattle.protocol.specs.declared.refusal.Refusal.TheVariants as refusal
-use Rattle.law.specs.Calls.{Call, Said, answered, drained, counted, told, Board, said_by, left_by}
+use Rattle.cluster.specs.Board.{Board}
+use Rattle.law.specs.Calls.{Call, Said, answered, drained, counted, told, said_by, left_by}
 
 abbrev refuses : {X : Type 0} → Result X Refusal → Bool
 refuses (Ok x) = false
