@@ -91,14 +91,19 @@ module _ (g g' : Geometry) (t t' : Trace) (same : g' ≡ g) (alike : t' ≡ t) (
   leaves h u = s' ≡ when_some (due h.measures (records_of u.records.now) s) (stepped h.measures (records_of u.records.now) s) s
 
   abbrev falls : Geometry → Trace → Type 0
-  falls h u = to_go h.measures (records_of u.records.now) s' < to_go h.measures (records_of u.records.now) s
+  falls h u =
+      to_go h.measures (records_of u.records.now)
+      (when_some (due h.measures (records_of u.records.now) s) (stepped h.measures (records_of u.records.now) s) s)
+      < to_go h.measures (records_of u.records.now) s
 
   moved : (P : Geometry → Trace → Type 0) → P g' t' → P g t
   moved P told = subst (λ h. P h t) same (subst (P g') alike told)
 
   pub goes_on : (step : Step) → shows (Some step) g' t' → leaves g' t' → falls g' t' → Further m recs first s s' fuel step
   goes_on step value told less =
-      going_on m recs first s s' fuel here step (moved (shows (Some step)) value) (moved leaves told) (moved falls less)
+      let after = moved leaves told in
+      going_on m recs first s s' fuel here step (moved (shows (Some step)) value) after
+      (subst (λ x. to_go m recs x < to_go m recs s) (sym after) (moved falls less))
 
   pub record Stopped : Type 0 where
     pub none : due m recs s' ≡ None
@@ -138,6 +143,6 @@ pub start_few : (m : Measures) (records : List Record) (s : Running) → m.proce
     → s.steps + to_go m records s ≤ 999999999
 start_few m records s eight few none =
     let some = some_many s.unfinished (length records) 0 in
-    let idle-few = idle_most m.processors s.processors in
+    let idle-few = idle_most m.processors s.board.processors in
     let product : m.processors * left m records s ≤ 8 * left m records s = mul-le-mul_right (left m records s) eight in
     omega (arith, some, idle-few, product, none)

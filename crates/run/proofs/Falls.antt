@@ -9,13 +9,11 @@ use Rattle.protocol.specs.declared.answer.Answer.TheVariants.{Done, Wait}
 use Rattle.protocol.specs.declared.refusal.Refusal.{Refusal}
 use Rattle.protocol.specs.declared.measures.Measures.{Measures}
 use Rattle.protocol.specs.declared.command.Request.{Request}
-use Rattle.protocol.specs.declared.line.Line.{Line}
-use Rattle.protocol.specs.declared.lock.LockEntry.{LockEntry}
 use Rattle.protocol.specs.Finding.{lowest_from}
 use Rattle.protocol.proofs.Finding.{Lowest, lowest_tells}
-use Rattle.memory.specs.Meaning.{Mem}
 use Rattle.cluster.specs.declared.cluster.Processor.{Processor}
 use Rattle.cluster.specs.Making.{resting, tables_fit}
+use Rattle.cluster.specs.Board.{Board}
 use Rattle.cluster.specs.Rule.{command_rule}
 use Rattle.cluster.specs.Waiting.{awaited_in, idle, FewerIdle}
 use Rattle.run.specs.Answered.{cost_of, finishes_record}
@@ -73,15 +71,15 @@ module _ (u : ℕ → Bool) (i : ℕ) (is : u i ≡ true) where
   left_falls : (n : ℕ) → i < n → how_many without 0 n + 1 ≡ how_many u 0 n
   left_falls n h = one_less n 0 (omega arith) (omega (arith, h))
 
-module _ (m : Measures) (ps : List Processor) (lines : List Line) (locks : List LockEntry) (mem : Mem) (q : Request) where
+module _ (m : Measures) (b : Board) (q : Request) where
   -- a processor that the geometry does not have is refused, and nothing changes
-  pub no_such_processor : m.processors ≤ q.processor → (command_rule m ps lines locks mem q).processors ≡ ps
+  pub no_such_processor : m.processors ≤ q.processor → (command_rule m b q).board.processors ≡ b.processors
   no_such_processor h =
       let beyond : leb m.processors q.processor ≡ true = grind (arith, nat_tests) in
-      by_tables (tables_fit m (length lines) (length locks)) refl beyond
+      by_tables (tables_fit m (length b.lines) (length b.locks)) refl beyond
     where
-      by_tables : (b : Bool) → tables_fit m (length lines) (length locks) ≡ b → leb m.processors q.processor ≡ true
-          → (command_rule m ps lines locks mem q).processors ≡ ps
+      by_tables : (fit : Bool) → tables_fit m (length b.lines) (length b.locks) ≡ fit → leb m.processors q.processor ≡ true
+          → (command_rule m b q).board.processors ≡ b.processors
       by_tables false e beyond = rw e refl
       by_tables true e beyond = rw (e, beyond) refl
 
@@ -126,22 +124,22 @@ module _ (m : Measures) (records : List Record) (s : Running) where
     abbrev p : ℕ
     p = (request_at records i).processor
 
-    told : (s.unfinished i ≡ true) × (not (is_some (awaited_in m s.processors p)) ≡ true)
-    told = unfinished_due i (s.unfinished i) (not (is_some (awaited_in m s.processors p))) (due_tells i is-due).1
+    told : (s.unfinished i ≡ true) × (not (is_some (awaited_in m s.board.processors p)) ≡ true)
+    told = unfinished_due i (s.unfinished i) (not (is_some (awaited_in m s.board.processors p))) (due_tells i is-due).1
 
-    rises : length s.processors ≡ 8 → m.processors ≤ 8 → (m.processors ≤ p → s'.processors ≡ s.processors)
-        → idle m.processors s'.processors ≤ idle m.processors s.processors + (m.processors - 1)
+    rises : length s.board.processors ≡ 8 → m.processors ≤ 8 → (m.processors ≤ p → s'.board.processors ≡ s.board.processors)
+        → idle m.processors s'.board.processors ≤ idle m.processors s.board.processors + (m.processors - 1)
     rises eight most same = elim (leb_tells m.processors p) [
-      | inl beyond ↦ let kept : idle m.processors s'.processors ≡ idle m.processors s.processors = ap (idle m.processors) (same beyond.1) in omega (arith, kept)
+      | inl beyond ↦ let kept : idle m.processors s'.board.processors ≡ idle m.processors s.board.processors = ap (idle m.processors) (same beyond.1) in omega (arith, kept)
       | inr here ↦
           let low : ltb p m.processors ≡ true = let less = here.1 in grind (arith, nat_tests) in
-          let none : awaited_in m s.processors p ≡ None = awake (awaited_in m s.processors p) told.1 in
-          let idle-here : (get_or s.processors p resting).waits_for ≡ None = ap (λ b. cond b (get_or s.processors p resting).waits_for None) (sym low) ∙ none in
-          idle_rise m.processors s.processors s'.processors p here.1 (let less = here.1 in omega (arith, less, eight, most)) idle-here
+          let none : awaited_in m s.board.processors p ≡ None = awake (awaited_in m s.board.processors p) told.1 in
+          let idle-here : (get_or s.board.processors p resting).waits_for ≡ None = ap (λ b. cond b (get_or s.board.processors p resting).waits_for None) (sym low) ∙ none in
+          idle_rise m.processors s.board.processors s'.board.processors p here.1 (let less = here.1 in omega (arith, less, eight, most)) idle-here
     ]
 
-    pub step_falls : 1 ≤ m.processors → m.processors ≤ 8 → length s.processors ≡ 8
-        → FewerIdle m.processors answer s.processors s'.processors → (m.processors ≤ p → s'.processors ≡ s.processors)
+    pub step_falls : 1 ≤ m.processors → m.processors ≤ 8 → length s.board.processors ≡ 8
+        → FewerIdle m.processors answer s.board.processors s'.board.processors → (m.processors ≤ p → s'.board.processors ≡ s.board.processors)
         → to_go m records s' < to_go m records s
     step_falls some most eight waits same = by_answer (finishes_record answer) refl
       where
@@ -150,35 +148,29 @@ module _ (m : Measures) (records : List Record) (s : Running) where
             let fewer : how_many s'.unfinished 0 (length records) + 1 ≡ how_many s.unfinished 0 (length records)
             = ap (λ u. how_many u 0 (length records) + 1) (after ∙ ap (λ b j. s.unfinished j && not (b && eqb j i)) e)
             ∙ left_falls s.unfinished i told.0 (length records) (due_tells i is-due).0 in
-            less_left m.processors (left m records s) (left m records s') (idle m.processors s.processors) (idle m.processors s'.processors) fewer (rises eight most same) some
+            less_left m.processors (left m records s) (left m records s') (idle m.processors s.board.processors) (idle m.processors s'.board.processors) fewer (rises eight most same) some
         by_answer false e =
             let as_many : how_many s'.unfinished 0 (length records) ≡ how_many s.unfinished 0 (length records)
             = ap (λ u. how_many u 0 (length records)) (after ∙ ap (λ b j. s.unfinished j && not (b && eqb j i)) e)
             ∙ same_many (λ j. s.unfinished j && not (false && eqb j i)) s.unfinished (length records) 0 (λ j h. grind (arith, nat_tests)) in
-            let less = wait_falls m.processors answer s.processors s'.processors e waits in
+            let less = wait_falls m.processors answer s.board.processors s'.board.processors e waits in
             let same-product : m.processors * left m records s' ≡ m.processors * left m records s = ap (λ x. m.processors * x) as_many in
             omega (arith, less, same-product)
 
   -- the state that a step leaves, part by part
   pub step_after : (s' : Running) (i : ℕ) → due m records s ≡ Some i
-      → s'.processors ≡ (outcome_at m records s i).processors
-      → s'.lines ≡ (outcome_at m records s i).lines
-      → s'.locks ≡ (outcome_at m records s i).locks
-      → s'.memory ≡ (outcome_at m records s i).memory
+      → s'.board ≡ (outcome_at m records s i).board
       → s'.unfinished ≡ (λ j. s.unfinished j && not (finishes_record (outcome_at m records s i).answer && eqb j i))
       → s'.steps ≡ s.steps + 1
       → s'.cycles ≡ s.cycles + cost_of (outcome_at m records s i).answer
       → s' ≡ when_some (due m records s) (stepped m records s) s
   unfolding stepped
-  step_after s' i is-due a b c d e f g =
+  step_after s' i is-due left unfinished steps cycles =
       rw is-due (λ k. record {
-        processors = a k;
-        lines = b k;
-        locks = c k;
-        memory = d k;
-        unfinished = e k;
-        steps = f k;
-        cycles = g k;
+        board = left k;
+        unfinished = unfinished k;
+        steps = steps k;
+        cycles = cycles k;
       })
 
   pub shown_due : (step : Step) (i : ℕ) → due m records s ≡ Some i → step ≡ record { number = s.steps + 1; request = request_at records i; answer = (outcome_at m records s i).answer }

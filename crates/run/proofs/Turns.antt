@@ -3,12 +3,9 @@ use Rattle.std.proofs.Common.{◌≡◌, ℕ, ◌+◌, ◌-◌, ◌*◌, ◌<◌
 use Rattle.std.proofs.lemmas.List.{get_or-set_same, get_or-set_other}
 use Rattle.std.proofs.lemmas.Bool.Decides.{eqb_tells, leb_tells, nat_tests}
 use Rattle.protocol.specs.declared.measures.Measures.{Measures}
-use Rattle.protocol.specs.declared.line.Line.{Line}
-use Rattle.protocol.specs.declared.lock.LockEntry.{LockEntry}
 use Rattle.protocol.specs.Finding.{lowest_from}
 use Rattle.protocol.proofs.Finding.{Lowest, lowest_tells, lowest_is, lowest_none}
-use Rattle.memory.specs.Meaning.{Mem}
-use Rattle.cluster.specs.declared.cluster.Processor.{Processor}
+use Rattle.cluster.specs.Board.{Board}
 use Rattle.cluster.specs.Waiting.{awaited_in}
 use Rattle.trace.specs.declared.record.Record.{Record}
 use Rattle.trace.specs.declared.trace.Trace.{Trace}
@@ -109,7 +106,7 @@ module _ (processors : ℕ) (bytes : List ℕ) (sound : wrong_from processors 0 
 
     module _ (m : Measures) (s : Running) (same : s.unfinished ≡ unfinished_by recs next) where
       abbrev waits : ℕ → Option ℕ
-      waits = awaited_in m s.processors
+      waits = awaited_in m s.board.processors
 
       abbrev tries : ℕ → Bool
       tries j = unfinished_by recs next j && not (is_some (waits (who j)))
@@ -229,7 +226,7 @@ pub few_records : (t : Trace) → length (records_of t.records.now) ≤ 1048576
 few_records t = omega (arith, t.few, many t.processors t.records.now t.sound t.served.1)
 
 -- what a run has come to is what its rule says of its records
-pub summed : (m : Measures) (run : Run) (rs : List Record) (ps : List Processor) (lines : List Line) (locks : List LockEntry) (mem : Mem)
-    → records_for run ≡ rs → summary_by run ≡ summary_of m rs (state_of run ps lines locks mem)
-summed m run rs ps lines locks mem alike =
+pub summed : (m : Measures) (run : Run) (rs : List Record) (b : Board)
+    → records_for run ≡ rs → summary_by run ≡ summary_of m rs (state_of run b)
+summed m run rs b alike =
     λ k. record { steps = run.steps; cycles = run.cycles; left = how_many (unfinished_by (records_for run) run.next) 0 (length (alike k)) }

@@ -19,7 +19,7 @@ pub struct Board {
 impl Board {
     pub fn new(heap: Global, geometry: Geometry) -> Result<Board, AllocError>
         ensures new { IfOk result (λ b. IsNew geometry b.cluster b.lines.items b.locks.items) }
-        ensures law { IfOk result (λ b. LawFrom geometry b.cluster.processors b.lines.items b.locks.items) }
+        ensures law { IfOk result (λ b. LawFrom geometry b.cluster b.lines.items b.locks.items) }
     {
         Ok(Board {
             cluster: Cluster::at_rest(geometry),

@@ -1,6 +1,7 @@
 // The listing of a trace: a line for each step, the total, and what is left.
 ghost use Rattle.std.specs.Prelude.{◌≡◌, ◌++◌, if◌then◌else◌, length, nat_lt, Err, IfOk, OnOk};
 ghost use Rattle.std.specs.Result.{result_map_both};
+ghost use Rattle.cluster.specs.Board.{board_of};
 ghost use Rattle.trace.specs.Traces.{records_of, content_of, trace_of};
 ghost use Rattle.run.specs.Board.{listing_measures};
 ghost use Rattle.run.specs.Listing.{lines_of, run_lines, listing_of};
@@ -38,8 +39,14 @@ fn put_steps<M: Memory>(
     memory: &mut M,
     trace: Trace,
 ) -> Result<Summary, AllocError>
-    ensures summary { IfOk result (λ s. s ≡ summary_of cluster.old.geometry.measures (records_of trace.entry.records.now) (end_of cluster.old.geometry.measures cluster.old.processors lines.old locks.old (M.Memory.model memory.old) (records_of trace.entry.records.now))) }
-    ensures lines { OnOk result (out.new.items ≡ out.old.items ++ lines_of (steps_of cluster.old.geometry.measures (records_of trace.entry.records.now) (started (records_of trace.entry.records.now) cluster.old.processors lines.old locks.old (M.Memory.model memory.old)))) }
+    ensures summary { let before = board_of cluster.old lines.old locks.old (M.Memory.model memory.old) in
+        let records = records_of trace.entry.records.now in
+        let end = end_of cluster.old.geometry.measures before records in
+        IfOk result (λ s. s ≡ summary_of cluster.old.geometry.measures records end) }
+    ensures lines { let before = board_of cluster.old lines.old locks.old (M.Memory.model memory.old) in
+        let records = records_of trace.entry.records.now in
+        let steps = steps_of cluster.old.geometry.measures records (started records before) in
+        OnOk result (out.new.items ≡ out.old.items ++ lines_of steps) }
 {
     let mut run = Run::start(trace);
     while let Some(step) = run.step(cluster, lines, locks, memory) {
@@ -65,7 +72,8 @@ pub fn listing_geometry(trace: &Trace) -> Geometry
 
 // The run of a trace over a new cluster and zero words.
 fn put_run(heap: Global, out: &mut Vec<u8>, trace: Trace) -> Result<(), AllocError>
-    ensures { OnOk result (out.new.items ≡ out.old.items ++ run_lines (content_of trace.entry.processors trace.entry.records.now)) }
+    ensures { let content = content_of trace.entry.processors trace.entry.records.now in
+        OnOk result (out.new.items ≡ out.old.items ++ run_lines content) }
 {
     let mut board = Board::new(heap, listing_geometry(&trace))?;
     let mut words = [0; MEMORY_WORDS];
@@ -84,7 +92,9 @@ fn put_run(heap: Global, out: &mut Vec<u8>, trace: Trace) -> Result<(), AllocErr
 
 // The trace that is listed. An input of over 65,536 bytes counts as one with a wrong trailer.
 pub fn read_listed(input: &[u8]) -> Result<Trace<'_>, Refusal>
-    ensures { result_map_both (λ t. content_of t.processors t.records.now) (λ refusal. refusal) result ≡ (if nat_lt 65536 (length input.now) then Err Refusal.Trailer else trace_of input.now) }
+    ensures { let long = nat_lt 65536 (length input.now) in
+        result_map_both (λ t. content_of t.processors t.records.now) (λ refusal. refusal) result
+        ≡ (if long then Err Refusal.Trailer else trace_of input.now) }
 {
     if input.len() > MOST_INPUT {
         return Err(Refusal::Trailer);

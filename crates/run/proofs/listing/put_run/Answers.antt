@@ -1,8 +1,6 @@
 use Rattle.std.proofs.Common.{◌≡◌, ◌++◌, replicate, vec_items, ap, ◌∙◌}
-use Rattle.protocol.specs.Lines.{blank_line}
-use Rattle.protocol.specs.Places.{line_count, lock_count}
 use Rattle.memory.specs.Words.{table_of}
-use Rattle.cluster.specs.Making.{blank_entry}
+use Rattle.cluster.specs.Board.{board_of, new_board}
 use Rattle.text.specs.Lines.{summary_lines}
 use Rattle.text.proofs.Joins.{behind}
 use Rattle.trace.specs.Traces.{records_of}
@@ -25,8 +23,11 @@ returns c =
     let same : c.listing_geometry.result.measures ≡ listing_measures t.processors = c.listing_geometry.ensures in
     let zeros : words ≡ replicate 1024 0 = c.new-memory.ensures.words in
     let steps = c.in_ok-summary.ensures in
-    behind out (lines_of (steps_of m recs (started recs board.cluster.processors c.deref_mut.result.now c.deref_mut-2.result.now (table_of words)))) _ steps.lines
+    let lent : board_of board.cluster c.deref_mut.result.now c.deref_mut-2.result.now (table_of words)
+    ≡ board_of board.cluster board.lines.items board.locks.items (table_of words)
+    = (λ k. board_of board.cluster (c.deref_mut.ensures.value k) (c.deref_mut-2.ensures.value k) (table_of words)) in
+    let made = lent ∙ new.board (table_of words) ∙ (λ k. new_board (same k) (table_of (zeros k))) in
+    let before = board_of board.cluster c.deref_mut.result.now c.deref_mut-2.result.now (table_of words) in
+    behind out (lines_of (steps_of m recs (started recs before))) _ steps.lines
     (c.in_ok-put_summary.ensures ∙ ap (λ x. vec_items c.put_steps.new.out ++ summary_lines x) steps.summary)
-    ∙ (λ k. out ++ all_lines (measured k) recs (started recs (new.processors k)
-    ((c.deref_mut.ensures.value ∙ new.blank_lines ∙ ap (λ x. replicate (line_count x) blank_line) same) k)
-    ((c.deref_mut-2.ensures.value ∙ new.blank_locks ∙ ap (λ x. replicate (lock_count x) blank_entry) same) k) (table_of (zeros k))))
+    ∙ (λ k. out ++ all_lines (measured k) recs (started recs (made k)))

@@ -1,4 +1,5 @@
 use Rattle.std.proofs.Common.{◌≡◌, ℕ, ◌++◌, vec_items, sym, refl, ap, subst, ◌∙◌, append_assoc, append-nil}
+use Rattle.cluster.specs.Board.{board_of}
 use Rattle.trace.specs.Traces.{records_of}
 use Rattle.text.specs.Lines.{line_of}
 use Rattle.run.specs.Kept.{Going}
@@ -16,10 +17,12 @@ loop-step-init g c =
     let told = c.start-run.ensures in
     let mem = g.M.Memory.model c.args.memory.now in
     let out = vec_items c.args.out.now in
-    let first = started recs cluster.processors c.args.lines.now c.args.locks.now mem in
-    let start = told.first cluster.processors c.args.lines.now c.args.locks.now mem
-    ∙ ap (λ t. started (records_of t.records.now) cluster.processors c.args.lines.now c.args.locks.now mem) told.trace in
-    let Here : Running → Type 0 = λ x. (fuel : ℕ) × Going m recs first x fuel × (out ++ lines_of (steps_from m recs fuel x) ≡ out ++ lines_of (steps_of m recs first)) in
+    let before = board_of cluster c.args.lines.now c.args.locks.now mem in
+    let first = started recs before in
+    let start = told.first before ∙ ap (λ t. started (records_of t.records.now) before) told.trace in
+    let all = out ++ lines_of (steps_of m recs first) in
+    let Here : Running → Type 0
+    = λ x. (fuel : ℕ) × Going m recs first x fuel × (out ++ lines_of (steps_from m recs fuel x) ≡ all) in
     let going = going_start m recs first (start_few m recs first cluster.geometry.few_processors (few_records c.args.trace) refl) in
     (subst Here (sym start) (to_go m recs first, going, refl), told.trace, refl)
 
@@ -43,9 +46,10 @@ returns g c =
     let was = vec_items c.loop-step.out in
     let told = c.in_default.ensures in
     let last = c.step.new in
+    let left = board_of last.cluster last.lines last.locks (g.M.Memory.model last.memory) in
     let stop = stops _ _ _ _ inv.2 inv.1 _ _ _ _ inv.0.1 told.value told.after in
     let kept = ap (λ t. records_of t.records.now) (told.trace ∙ inv.1) in
     record {
-      summary = c.summary.ensures.value ∙ summed m last.self recs last.cluster.processors last.lines last.locks (g.M.Memory.model last.memory) kept ∙ ap (summary_of m recs) stop.end;
+      summary = c.summary.ensures.value ∙ summed m last.self recs left kept ∙ ap (summary_of m recs) stop.end;
       lines = sym (append-nil was) ∙ ap (λ steps. was ++ lines_of steps) (sym stop.no_more) ∙ inv.0.2;
     }
