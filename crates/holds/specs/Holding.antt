@@ -38,12 +38,16 @@ abbrev pub answer_of : Released → Result Answer Refusal
 answer_of (Ended answer) = answer
 answer_of (Back hold answer) = answer
 
+-- the command that takes a lock, and one that releases it
+abbrev pub lr_at : ℕ → ℕ → Request
+lr_at processor address = by processor LR address
+
 abbrev pub sent : Hold → Command → Request
 sent hold released_by = by hold.processor released_by hold.address
 
 -- the commands issued
 abbrev pub taking : ℕ → ℕ → List Call
-taking processor address = command (by processor LR address) ∷ []
+taking processor address = command (lr_at processor address) ∷ []
 
 abbrev pub releasing : Hold → Command → List Call
 releasing hold released_by = command (sent hold released_by) ∷ []
