@@ -28,7 +28,11 @@ module _ (m : Measures) (b : Board) where
   waiting c holder =
       let asking = slice_index_or b.processors c.processor resting in
       record {
-        answer = Ok (Wait (record { holder = holder; found = c.found; cycles = m.costs.lock_signal }));
+        answer = Ok (Wait (record {
+          holder = holder;
+          found = c.found;
+          cycles = m.costs.lock_signal;
+        }));
         board = record {
           processors = slice_set b.processors c.processor (waiting_for asking c.block);
           lines = b.lines;
@@ -68,4 +72,5 @@ module _ (m : Measures) (b : Board) where
   meeting q = unless_err b (case_of m b.processors b.lines b.locks b.memory.count q) proceeding
 
   abbrev pub command_rule : Request → Outcome Answer
-  command_rule q = if tables_fit m (length b.lines) (length b.locks) then meeting q else refusing b TableLength
+  command_rule q =
+      if tables_fit m (length b.lines) (length b.locks) then meeting q else refusing b TableLength

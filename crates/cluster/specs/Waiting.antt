@@ -11,7 +11,8 @@ use Rattle.cluster.specs.Tables.{map_from}
 
 -- the block that a processor waits for; one that the geometry does not have never waits
 abbrev pub awaited_in : Measures → List Processor → ℕ → Option ℕ
-awaited_in m ps processor = if nat_lt processor m.processors then (get_or ps processor resting).waits_for else None
+awaited_in m ps processor =
+    if nat_lt processor m.processors then (get_or ps processor resting).waits_for else None
 
 abbrev pub awaited : Cluster → ℕ → Option ℕ
 awaited c processor = awaited_in c.geometry.measures c.processors processor
@@ -39,7 +40,8 @@ waits_for block None = false
 waits_for block (Some awaits) = awaits == block
 
 abbrev pub woken : ℕ → Processor → Processor
-woken block p = if waits_for block p.waits_for then record { turn = p.turn; waits_for = None } else p
+woken block p =
+    if waits_for block p.waits_for then record { turn = p.turn; waits_for = None } else p
 
 -- every processor that waits for the block stops waiting
 abbrev pub all_woken : ℕ → List Processor → List Processor
@@ -50,7 +52,8 @@ abbrev pub raised : ℕ → Processor → Processor
 raised ways p = record { turn = (p.turn % ways + 1) % ways; waits_for = p.waits_for }
 
 abbrev pub turn_raised : ℕ → List Processor → ℕ → List Processor
-turn_raised ways ps processor = slice_set ps processor (raised ways (slice_index_or ps processor resting))
+turn_raised ways ps processor =
+    slice_set ps processor (raised ways (slice_index_or ps processor resting))
 
 -- a command that waits leaves fewer processors that do not
 abbrev pub WaitsMore : Result Answer Refusal → List Processor → List Processor → Type 0

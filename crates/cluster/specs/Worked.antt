@@ -24,7 +24,8 @@ abbrev pub two : Measures
 two = record { processors = 2; columns = 1; ways = 1; lock_entries = 1; costs = standard_costs }
 
 abbrev pub by : ℕ → Command → ℕ → Request
-by processor command address = record { processor = processor; command = command; address = address }
+by processor command address =
+    record { processor = processor; command = command; address = address }
 
 -- each command starts from what the one before left
 abbrev pub play_from : Board → List Request → List (Outcome Answer)
@@ -60,7 +61,8 @@ abbrev pub silent : ℕ → State → Told
 silent word left = Did word left None None false 0
 
 pub record WorkedCases : Type 0 where
-  pub end_of_memory : told (by 0 R 15 ∷ (by 0 R 16 ∷ [])) ≡ from_memory 0 EC ∷ (Refused Address ∷ [])
+  pub end_of_memory : told (by 0 R 15 ∷ (by 0 R 16 ∷ []))
+      ≡ from_memory 0 EC ∷ (Refused Address ∷ [])
   pub written_then_shared : told (by 0 (W 5) 0 ∷ (by 1 R 0 ∷ []))
       ≡ from_memory 0 EM ∷ (Did 5 S (Some (Cache 0)) None false 7 ∷ [])
   pub supplier_keeps_sm : map first_line (play (by 0 (W 5) 0 ∷ (by 1 R 0 ∷ []))) ≡ EM ∷ (SM ∷ [])

@@ -20,8 +20,7 @@ use protocol::refusal::Refusal;
 impl Cluster {
     // Refuses a line table of wrong length with 2.
     pub fn check_lines(&self, lines: &[Line]) -> Result<(), Refusal>
-        ensures {
-            let fits = length lines.now == line_count self.now.geometry.measures in
+        ensures { let fits = length lines.now == line_count self.now.geometry.measures in
             result ≡ (if fits then Ok tt else Err Refusal.TableLength) }
     {
         if lines.len() != self.geometry.line_count() {
@@ -32,8 +31,7 @@ impl Cluster {
 
     // Refuses a lock table of wrong length with 2.
     pub fn check_locks(&self, locks: &[LockEntry]) -> Result<(), Refusal>
-        ensures {
-            let fits = length locks.now == lock_count self.now.geometry.measures in
+        ensures { let fits = length locks.now == lock_count self.now.geometry.measures in
             result ≡ (if fits then Ok tt else Err Refusal.TableLength) }
     {
         if locks.len() != self.geometry.lock_count() {
@@ -43,8 +41,7 @@ impl Cluster {
     }
 
     pub fn check_tables(&self, lines: &[Line], locks: &[LockEntry]) -> Result<(), Refusal>
-        ensures {
-            let fits = tables_fit self.now.geometry.measures (length lines.now) (length locks.now) in
+        ensures { let fits = tables_fit self.now.geometry.measures (length lines.now) (length locks.now) in
             result ≡ (if fits then Ok tt else Err Refusal.TableLength) }
     {
         self.check_lines(lines)?;
@@ -60,18 +57,15 @@ impl Cluster {
         memory: &mut M,
         request: Request,
     ) -> Result<Answer, Refusal>
-        ensures answer {
-            let before = board_of self.old lines.old locks.old (M.Memory.model memory.old) in
+        ensures answer { let before = board_of self.old lines.old locks.old (M.model memory.old) in
             result ≡ (command_rule self.old.geometry.measures before request).answer }
-        ensures board {
-            let before = board_of self.old lines.old locks.old (M.Memory.model memory.old) in
-            board_of self.new lines.new locks.new (M.Memory.model memory.new)
+        ensures board { let before = board_of self.old lines.old locks.old (M.model memory.old) in
+            board_of self.new lines.new locks.new (M.model memory.new)
             ≡ (command_rule self.old.geometry.measures before request).board }
         ensures geometry { self.new.geometry ≡ self.old.geometry }
-        ensures kept { M.Memory.standing memory.new ≡ M.Memory.standing memory.old }
+        ensures kept { M.standing memory.new ≡ M.standing memory.old }
         ensures waiting { WaitsMore result self.old.processors self.new.processors }
-        ensures idle {
-            let count = self.old.geometry.measures.processors in
+        ensures idle { let count = self.old.geometry.measures.processors in
             FewerIdle count result self.old.processors self.new.processors }
         ensures cost { IfOk result (λ a. cycles_in a ≤ 4000) }
     {

@@ -21,7 +21,8 @@ use Rattle.law.proofs.Along.{law_along}
 use Rattle.holds.specs.Holding.{hold_at, lr_at, taken, ends, released, answer_of, sent, releasing}
 use Rattle.holds.specs.Bumping.{one_more, word_back, bumped_from, bump_rule, bumping_after, bumping, OneHigher, Bumped, RaisedByOne, Raised}
 
-pub held : (mine hold : Hold) (done : Completion) (r : Result Answer Refusal) → Held hold done ≡ taken mine r → (hold ≡ mine) × (r ≡ Ok (Done done))
+pub held : (mine hold : Hold) (done : Completion) (r : Result Answer Refusal)
+    → Held hold done ≡ taken mine r → (hold ≡ mine) × (r ≡ Ok (Done done))
 held mine hold done (Ok (Done d)) h = (cc, cc)
 held mine hold done (Ok (Wait hit)) h = absurd (cc)
 held mine hold done (Err e) h = absurd (cc)
@@ -38,9 +39,13 @@ itself : (n : ℕ) → eqb n n ≡ true
 itself n = grind (arith, nat_tests)
 
 module _ (m : Measures) (processor address : ℕ) where
-  one_higher : (word : ℕ) (ul : Bool) (l : Ledger) → OneHigher processor address word (lock_released processor address ul (entered address (one_more word) l))
-  one_higher word true l = record { word = rw (itself address) refl; free = rw (itself processor, itself address) refl }
-  one_higher word false l = record { word = rw (itself address) refl; free = rw (itself processor, itself address) refl }
+  one_higher : (word : ℕ) (ul : Bool) (l : Ledger)
+      → OneHigher processor address word
+      (lock_released processor address ul (entered address (one_more word) l))
+  one_higher word true l =
+      record { word = rw (itself address) refl; free = rw (itself processor, itself address) refl }
+  one_higher word false l =
+      record { word = rw (itself address) refl; free = rw (itself processor, itself address) refl }
 
   module _ (b : Board) where
     abbrev first : Outcome Answer
@@ -50,7 +55,9 @@ module _ (m : Measures) (processor address : ℕ) where
     locked = left_by m b (command (lr_at processor address))
 
     abbrev fed_first : Result Answer Refusal → Ledger → Ledger
-    fed_first r l = ledger_along m locked (command_fed (lr_at processor address) r l) (bumping_after m processor address r)
+    fed_first r l =
+        ledger_along m locked (command_fed (lr_at processor address) r l)
+        (bumping_after m processor address r)
 
     -- a bump whose LR is not done is that LR
     pub record Stops (r answer : Result Answer Refusal) : Type 0 where
@@ -59,43 +66,55 @@ module _ (m : Measures) (processor address : ℕ) where
       pub calls : [] ≡ bumping_after m processor address r
       pub bumped : Bumped m processor address b answer
 
-    pub stops : (hold : Hold) (answer r : Result Answer Refusal) → NotHeld answer ≡ taken hold r → Stops r answer
+    pub stops : (hold : Hold) (answer r : Result Answer Refusal) → NotHeld answer ≡ taken hold r
+        → Stops r answer
     stops hold answer (Ok (Done d)) h = absurd (cc)
     stops hold (Ok (Done d)) (Ok (Wait hit)) h = absurd (cc)
-    stops hold (Ok (Wait hit')) (Ok (Wait hit)) h = record { answered = cc; rule = refl; calls = refl; bumped = tt }
+    stops hold (Ok (Wait hit')) (Ok (Wait hit)) h =
+        record { answered = cc; rule = refl; calls = refl; bumped = tt }
     stops hold (Err e) (Ok (Wait hit)) h = absurd (cc)
     stops hold (Ok (Done d)) (Err e) h = absurd (cc)
     stops hold (Ok (Wait hit)) (Err e) h = absurd (cc)
     stops hold (Err e') (Err e) h = record { answered = cc; rule = refl; calls = refl; bumped = tt }
 
     fed_twice : (done : Completion) → first.answer ≡ Ok (Done done) → (r : Result Answer Refusal)
-        → (command_rule m locked (word_back m processor address done.word)).answer ≡ r → Bumped m processor address b r
+        → (command_rule m locked (word_back m processor address done.word)).answer ≡ r
+        → Bumped m processor address b r
     fed_twice done h (Ok (Wait hit)) h' = tt
     fed_twice done h (Err e) h' = tt
     fed_twice done h (Ok (Done d)) h' =
         let q = word_back m processor address done.word in
-        let P : Result Answer Refusal → Type 0 = λ r. OnDone r (λ read. (l : Ledger) → OneHigher processor address read.word (fed_first r l)) in
+        let P : Result Answer Refusal → Type 0 =
+        λ r. OnDone r (λ read. (l : Ledger) → OneHigher processor address read.word (fed_first r l)) in
         subst P (sym h) (λ l.
         let held = command_fed (lr_at processor address) (Ok (Done done)) l in
-        let Q : Result Answer Refusal → Type 0 = λ r. OneHigher processor address done.word (command_fed q r held) in
+        let Q : Result Answer Refusal → Type 0 =
+        λ r. OneHigher processor address done.word (command_fed q r held) in
         subst Q (sym h') (one_higher done.word d.ul held))
 
     -- a bump whose LR is done is UW too, from what LR left
     pub record Goes (m' : Measures) (b' : Board) (hold : Hold) (word : ℕ) : Type 0 where
       pub rule : command_rule m' b' (sent hold (UW (one_more word))) ≡ bump_rule m processor address b
-      pub calls : left_along m' b' (releasing hold (UW (one_more word))) ≡ left_along m b (bumping m processor address b)
-      pub bumped : (answer : Result Answer Refusal) → answer ≡ (command_rule m' b' (sent hold (UW (one_more word)))).answer → Bumped m processor address b answer
+      pub calls : left_along m' b' (releasing hold (UW (one_more word)))
+          ≡ left_along m b (bumping m processor address b)
+      pub bumped : (answer : Result Answer Refusal)
+          → answer ≡ (command_rule m' b' (sent hold (UW (one_more word)))).answer
+          → Bumped m processor address b answer
 
     pub goes : (m' : Measures) (b' : Board) (hold : Hold) (done : Completion)
-        → m' ≡ m → b' ≡ locked → hold ≡ hold_at processor address → first.answer ≡ Ok (Done done) → Goes m' b' hold done.word
+        → m' ≡ m → b' ≡ locked → hold ≡ hold_at processor address → first.answer ≡ Ok (Done done)
+        → Goes m' b' hold done.word
     goes m' b' hold done em eb eh e =
         let uw = UW (one_more done.word) in
-        let moved : command_rule m' b' (sent hold uw) ≡ command_rule m locked (word_back m processor address done.word)
+        let moved : command_rule m' b' (sent hold uw)
+        ≡ command_rule m locked (word_back m processor address done.word)
         = λ i. command_rule (em i) (eb i) (sent (eh i) uw) in
         record {
           rule = moved ∙ sym (ap (bumped_from m processor address first) e);
-          calls = (λ i. left_by (em i) (eb i) (command (sent (eh i) uw))) ∙ sym (ap (λ r. left_along m locked (bumping_after m processor address r)) e);
-          bumped = λ answer is. fed_twice done e answer (sym (ap (λ (o : Outcome Answer). o.answer) moved) ∙ sym is);
+          calls = (λ i. left_by (em i) (eb i) (command (sent (eh i) uw)))
+              ∙ sym (ap (λ r. left_along m locked (bumping_after m processor address r)) e);
+          bumped = λ answer is. fed_twice done e answer
+              (sym (ap (λ (o : Outcome Answer). o.answer) moved) ∙ sym is);
         }
 
 -- the ledger's word is the one that LR reads
@@ -118,20 +137,29 @@ raised g processor address b r is made mem lawful calls from = by_first first.an
 
     by_first : (x : Result Answer Refusal) → first.answer ≡ x → (r : Result Answer Refusal)
         → r ≡ (bump_rule g.measures processor address b).answer
-        → Bumped g.measures processor address b r → OnDone r (λ done. RaisedByOne processor address before after)
+        → Bumped g.measures processor address b r
+        → OnDone r (λ done. RaisedByOne processor address before after)
     by_first x e (Ok (Wait hit)) is made = tt
     by_first x e (Err refusal) is made = tt
-    by_first (Ok (Wait hit)) e (Ok (Done d)) is made = absurd (cc (is ∙ ap (λ y. (bumped_from g.measures processor address first y).answer) e ∙ e))
-    by_first (Err refusal) e (Ok (Done d)) is made = absurd (cc (is ∙ ap (λ y. (bumped_from g.measures processor address first y).answer) e ∙ e))
+    by_first (Ok (Wait hit)) e (Ok (Done d)) is made =
+        absurd (cc (is ∙ ap (λ y. (bumped_from g.measures processor address first y).answer) e ∙ e))
+    by_first (Err refusal) e (Ok (Done d)) is made =
+        absurd (cc (is ∙ ap (λ y. (bumped_from g.measures processor address first y).answer) e ∙ e))
     by_first (Ok (Done done)) e (Ok (Done d)) is made =
         record { word = by_word (before.words address) refl; free = higher.free }
       where
         higher : OneHigher processor address done.word after
         higher =
-            subst (λ x. OnDone x (λ read. (l : Ledger) → OneHigher processor address read.word (ledger_along g.measures b l (bumping g.measures processor address b)))) e made before
+            subst (λ x. OnDone x
+            (λ read. (l : Ledger) → OneHigher processor address read.word
+            (ledger_along g.measures b l (bumping g.measures processor address b)))) e made before
 
-        by_word : (w : Option ℕ) → before.words address ≡ w → IfSome w (λ word. after.words address ≡ Some (one_more word))
+        by_word : (w : Option ℕ) → before.words address ≡ w
+            → IfSome w (λ word. after.words address ≡ Some (one_more word))
         by_word None same = tt
         by_word (Some word) same =
-            let told : done.word ≡ word = subst (λ o. IfSome o (λ word. done.word ≡ word)) same (subst (λ a. OnDone a (λ done. IfSome (before.words address) (λ word. done.word ≡ word))) e read) in
+            let told : done.word ≡ word =
+            subst (λ o. IfSome o (λ word. done.word ≡ word)) same
+            (subst (λ a. OnDone a (λ done. IfSome (before.words address) (λ word. done.word ≡ word))) e
+            read) in
             higher.word ∙ ap (λ n. Some (one_more n)) told

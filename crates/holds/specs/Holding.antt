@@ -5,8 +5,11 @@ use Rattle.protocol.specs.declared.answer.Answer.TheVariants.{Done, Wait}
 use Rattle.protocol.specs.declared.command.Command.{Command}
 use Rattle.protocol.specs.declared.command.Command.TheVariants.{LR}
 use Rattle.protocol.specs.declared.command.Request.{Request}
+use Rattle.protocol.specs.declared.measures.Measures.{Measures}
 use Rattle.protocol.specs.declared.refusal.Refusal.{Refusal}
 use Rattle.protocol.specs.Numbers.{number_of}
+use Rattle.cluster.specs.Board.{Board, Outcome}
+use Rattle.cluster.specs.Rule.{command_rule}
 use Rattle.law.specs.Calls.{Call, command}
 use Rattle.holds.specs.declared.hold.Hold.{Hold}
 use Rattle.holds.specs.declared.hold.Taken.{Taken}
@@ -44,6 +47,12 @@ lr_at processor address = by processor LR address
 
 abbrev pub sent : Hold → Command → Request
 sent hold released_by = by hold.processor released_by hold.address
+
+abbrev pub take_rule : Measures → ℕ → ℕ → Board → Outcome Answer
+take_rule m processor address b = command_rule m b (lr_at processor address)
+
+abbrev pub send_rule : Measures → Hold → Command → Board → Outcome Answer
+send_rule m hold released_by b = command_rule m b (sent hold released_by)
 
 -- the commands issued
 abbrev pub taking : ℕ → ℕ → List Call

@@ -25,23 +25,23 @@ pub fn bump<M: Memory>(
     processor: u8,
     address: u32,
 ) -> Result<Answer, Refusal>
-    ensures answer { let before = board_of cluster.old lines.old locks.old (M.Memory.model memory.old) in
+    ensures answer { let before = board_of cluster.old lines.old locks.old (M.model memory.old) in
         result ≡ (bump_rule cluster.old.geometry.measures processor address before).answer }
-    ensures board { let before = board_of cluster.old lines.old locks.old (M.Memory.model memory.old) in
-        let after = board_of cluster.new lines.new locks.new (M.Memory.model memory.new) in
-        after ≡ (bump_rule cluster.old.geometry.measures processor address before).board }
+    ensures board { let before = board_of cluster.old lines.old locks.old (M.model memory.old) in
+        board_of cluster.new lines.new locks.new (M.model memory.new)
+        ≡ (bump_rule cluster.old.geometry.measures processor address before).board }
     ensures geometry { cluster.new.geometry ≡ cluster.old.geometry }
-    ensures kept { M.Memory.standing memory.new ≡ M.Memory.standing memory.old }
-    ensures commands { let before = board_of cluster.old lines.old locks.old (M.Memory.model memory.old) in
-        let after = board_of cluster.new lines.new locks.new (M.Memory.model memory.new) in
+    ensures kept { M.standing memory.new ≡ M.standing memory.old }
+    ensures commands { let before = board_of cluster.old lines.old locks.old (M.model memory.old) in
         let calls = bumping cluster.old.geometry.measures processor address before in
-        after ≡ left_along cluster.old.geometry.measures before calls }
-    ensures law { let before = board_of cluster.old lines.old locks.old (M.Memory.model memory.old) in
+        board_of cluster.new lines.new locks.new (M.model memory.new)
+        ≡ left_along cluster.old.geometry.measures before calls }
+    ensures law { let before = board_of cluster.old lines.old locks.old (M.model memory.old) in
         let calls = bumping cluster.old.geometry.measures processor address before in
         LawAlong cluster.old.geometry before calls }
-    ensures raised { let before = board_of cluster.old lines.old locks.old (M.Memory.model memory.old) in
+    ensures raised { let before = board_of cluster.old lines.old locks.old (M.model memory.old) in
         Raised cluster.old.geometry processor address before result }
-    ensures bumped { let before = board_of cluster.old lines.old locks.old (M.Memory.model memory.old) in
+    ensures bumped { let before = board_of cluster.old lines.old locks.old (M.model memory.old) in
         Bumped cluster.old.geometry.measures processor address before result }
 {
     let (hold, taken) = match Hold::take(cluster, lines, locks, memory, processor, address) {

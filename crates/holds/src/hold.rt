@@ -1,10 +1,9 @@
 // A hold: a lock that program code has taken and cannot forget.
 ghost use Rattle.std.specs.Prelude.{◌≡◌};
 ghost use Rattle.cluster.specs.Board.{board_of};
-ghost use Rattle.cluster.specs.Rule.{command_rule};
 ghost use Rattle.law.specs.Accounts.{left_along};
 ghost use Rattle.law.specs.Along.{LawAlong};
-ghost use Rattle.holds.specs.Holding.{hold_at, lr_at, taken, ends, released, answer_of, sent, taking, releasing};
+ghost use Rattle.holds.specs.Holding.{hold_at, taken, ends, released, answer_of, take_rule, send_rule, taking, releasing};
 
 use cluster::cluster::Cluster;
 use memory::memory::Memory;
@@ -27,8 +26,8 @@ pub enum Taken {
     NotHeld(Result<Answer, Refusal>),
 }
 
-/// What a release gives. Done, or refused with 8, it ends the hold; with every other answer it gives
-/// the hold back.
+/// What a release gives. Done, or refused with 8, it ends the hold; with every other answer it
+/// gives the hold back.
 pub enum Released {
     Ended(Result<Answer, Refusal>),
     Back(Hold, Result<Answer, Refusal>),
@@ -67,18 +66,21 @@ impl Hold {
         processor: u8,
         address: u32,
     ) -> Taken
-        ensures answer { let before = board_of cluster.old lines.old locks.old (M.Memory.model memory.old) in
-            let outcome = command_rule cluster.old.geometry.measures before (lr_at processor address) in
+        ensures answer { let before = board_of cluster.old
+            lines.old locks.old (M.model memory.old) in
+            let outcome = take_rule cluster.old.geometry.measures processor address before in
             result ≡ taken (hold_at processor address) outcome.answer }
-        ensures board { let before = board_of cluster.old lines.old locks.old (M.Memory.model memory.old) in
-            let after = board_of cluster.new lines.new locks.new (M.Memory.model memory.new) in
-            after ≡ (command_rule cluster.old.geometry.measures before (lr_at processor address)).board }
+        ensures board { let before = board_of cluster.old
+            lines.old locks.old (M.model memory.old) in
+            board_of cluster.new lines.new locks.new (M.model memory.new)
+            ≡ (take_rule cluster.old.geometry.measures processor address before).board }
         ensures geometry { cluster.new.geometry ≡ cluster.old.geometry }
-        ensures kept { M.Memory.standing memory.new ≡ M.Memory.standing memory.old }
-        ensures commands { let before = board_of cluster.old lines.old locks.old (M.Memory.model memory.old) in
-            let after = board_of cluster.new lines.new locks.new (M.Memory.model memory.new) in
-            after ≡ left_along cluster.old.geometry.measures before (taking processor address) }
-        ensures law { let before = board_of cluster.old lines.old locks.old (M.Memory.model memory.old) in
+        ensures kept { M.standing memory.new ≡ M.standing memory.old }
+        ensures commands { let before = board_of cluster.old
+            lines.old locks.old (M.model memory.old) in
+            board_of cluster.new lines.new locks.new (M.model memory.new)
+            ≡ left_along cluster.old.geometry.measures before (taking processor address) }
+        ensures law { let before = board_of cluster.old lines.old locks.old (M.model memory.old) in
             LawAlong cluster.old.geometry before (taking processor address) }
     {
         let request = Request {
@@ -101,14 +103,16 @@ impl Hold {
         memory: &mut M,
         command: Command,
     ) -> Released
-        ensures answer { let before = board_of cluster.old lines.old locks.old (M.Memory.model memory.old) in
-            let outcome = command_rule cluster.old.geometry.measures before (sent self command) in
+        ensures answer { let before = board_of cluster.old
+            lines.old locks.old (M.model memory.old) in
+            let outcome = send_rule cluster.old.geometry.measures self command before in
             result ≡ released self outcome.answer }
-        ensures board { let before = board_of cluster.old lines.old locks.old (M.Memory.model memory.old) in
-            let after = board_of cluster.new lines.new locks.new (M.Memory.model memory.new) in
-            after ≡ (command_rule cluster.old.geometry.measures before (sent self command)).board }
+        ensures board { let before = board_of cluster.old
+            lines.old locks.old (M.model memory.old) in
+            board_of cluster.new lines.new locks.new (M.model memory.new)
+            ≡ (send_rule cluster.old.geometry.measures self command before).board }
         ensures geometry { cluster.new.geometry ≡ cluster.old.geometry }
-        ensures kept { M.Memory.standing memory.new ≡ M.Memory.standing memory.old }
+        ensures kept { M.standing memory.new ≡ M.standing memory.old }
     {
         let request = Request {
             processor: self.processor,
@@ -124,8 +128,8 @@ impl Hold {
         }
     }
 
-    /// Gives the lock back: issues U. Refuses as that command does; the call is that command, so what
-    /// holds of commands holds of it.
+    /// Gives the lock back: issues U. Refuses as that command does; the call is that command, so
+    /// what holds of commands holds of it.
     pub fn release<M: Memory>(
         self,
         cluster: &mut Cluster,
@@ -133,18 +137,21 @@ impl Hold {
         locks: &mut [LockEntry],
         memory: &mut M,
     ) -> Released
-        ensures answer { let before = board_of cluster.old lines.old locks.old (M.Memory.model memory.old) in
-            let outcome = command_rule cluster.old.geometry.measures before (sent self Command.U) in
+        ensures answer { let before = board_of cluster.old
+            lines.old locks.old (M.model memory.old) in
+            let outcome = send_rule cluster.old.geometry.measures self Command.U before in
             result ≡ released self outcome.answer }
-        ensures board { let before = board_of cluster.old lines.old locks.old (M.Memory.model memory.old) in
-            let after = board_of cluster.new lines.new locks.new (M.Memory.model memory.new) in
-            after ≡ (command_rule cluster.old.geometry.measures before (sent self Command.U)).board }
+        ensures board { let before = board_of cluster.old
+            lines.old locks.old (M.model memory.old) in
+            board_of cluster.new lines.new locks.new (M.model memory.new)
+            ≡ (send_rule cluster.old.geometry.measures self Command.U before).board }
         ensures geometry { cluster.new.geometry ≡ cluster.old.geometry }
-        ensures kept { M.Memory.standing memory.new ≡ M.Memory.standing memory.old }
-        ensures commands { let before = board_of cluster.old lines.old locks.old (M.Memory.model memory.old) in
-            let after = board_of cluster.new lines.new locks.new (M.Memory.model memory.new) in
-            after ≡ left_along cluster.old.geometry.measures before (releasing self Command.U) }
-        ensures law { let before = board_of cluster.old lines.old locks.old (M.Memory.model memory.old) in
+        ensures kept { M.standing memory.new ≡ M.standing memory.old }
+        ensures commands { let before = board_of cluster.old
+            lines.old locks.old (M.model memory.old) in
+            board_of cluster.new lines.new locks.new (M.model memory.new)
+            ≡ left_along cluster.old.geometry.measures before (releasing self Command.U) }
+        ensures law { let before = board_of cluster.old lines.old locks.old (M.model memory.old) in
             LawAlong cluster.old.geometry before (releasing self Command.U) }
     {
         self.send(cluster, lines, locks, memory, Command::U)
@@ -160,25 +167,28 @@ impl Hold {
         memory: &mut M,
         word: u32,
     ) -> Released
-        ensures answer { let before = board_of cluster.old lines.old locks.old (M.Memory.model memory.old) in
-            let outcome = command_rule cluster.old.geometry.measures before (sent self (Command.UW word)) in
+        ensures answer { let before = board_of cluster.old
+            lines.old locks.old (M.model memory.old) in
+            let outcome = send_rule cluster.old.geometry.measures self (Command.UW word) before in
             result ≡ released self outcome.answer }
-        ensures board { let before = board_of cluster.old lines.old locks.old (M.Memory.model memory.old) in
-            let after = board_of cluster.new lines.new locks.new (M.Memory.model memory.new) in
-            after ≡ (command_rule cluster.old.geometry.measures before (sent self (Command.UW word))).board }
+        ensures board { let before = board_of cluster.old
+            lines.old locks.old (M.model memory.old) in
+            board_of cluster.new lines.new locks.new (M.model memory.new)
+            ≡ (send_rule cluster.old.geometry.measures self (Command.UW word) before).board }
         ensures geometry { cluster.new.geometry ≡ cluster.old.geometry }
-        ensures kept { M.Memory.standing memory.new ≡ M.Memory.standing memory.old }
-        ensures commands { let before = board_of cluster.old lines.old locks.old (M.Memory.model memory.old) in
-            let after = board_of cluster.new lines.new locks.new (M.Memory.model memory.new) in
-            after ≡ left_along cluster.old.geometry.measures before (releasing self (Command.UW word)) }
-        ensures law { let before = board_of cluster.old lines.old locks.old (M.Memory.model memory.old) in
+        ensures kept { M.standing memory.new ≡ M.standing memory.old }
+        ensures commands { let before = board_of cluster.old
+            lines.old locks.old (M.model memory.old) in
+            board_of cluster.new lines.new locks.new (M.model memory.new)
+            ≡ left_along cluster.old.geometry.measures before (releasing self (Command.UW word)) }
+        ensures law { let before = board_of cluster.old lines.old locks.old (M.model memory.old) in
             LawAlong cluster.old.geometry before (releasing self (Command.UW word)) }
     {
         self.send(cluster, lines, locks, memory, Command::UW(word))
     }
 
-    /// Gives up the hold and leaves the lock: it can be released by a command with these two numbers,
-    /// processor and word address.
+    /// Gives up the hold and leaves the lock: it can be released by a command with these two
+    /// numbers, processor and word address.
     pub fn lay_down(self) -> (u8, u32)
         ensures processor { result.0 ≡ self.processor }
         ensures address { result.1 ≡ self.address }

@@ -49,7 +49,8 @@ module _ (m : Measures) (board : Board) (q : Request) where
     pub given : supplied m board.lines board.memory (case_with effect) ≡ Ok supply
     pub swapped : Option ℕ
     pub granted : swapped_out board.memory (victim_of board.lines (taken_with effect)) ≡ Ok swapped
-    pub is : o ≡ finishing m board (case_with effect) supply (taken_with effect) swapped (memory_after board.memory (victim_of board.lines (taken_with effect)))
+    pub is : o ≡ finishing m board (case_with effect) supply (taken_with effect) swapped
+        (memory_after board.memory (victim_of board.lines (taken_with effect)))
 
 pub done : {m : Measures} {board : Board} {q : Request} {o : Outcome Answer}
     → Finished m board q o → Done m board q o
@@ -63,10 +64,15 @@ done {m = m} {board = board} {q = q} f =
       supply = f.supply;
       given = subst (λ c. supplied m board.lines board.memory c ≡ Ok f.supply) facts.is f.given;
       swapped = f.swapped;
-      granted = subst (λ c. swapped_out board.memory (victim_of board.lines (way_taken m board.processors board.lines c)) ≡ Ok f.swapped) facts.is f.granted;
+      granted = subst
+          (λ c. swapped_out board.memory
+          (victim_of board.lines (way_taken m board.processors board.lines c)) ≡ Ok f.swapped) facts.is
+          f.granted;
       is =
           f.is
-          ∙ ap (λ c. finishing m board c f.supply (way_taken m board.processors board.lines c) f.swapped (memory_after board.memory (victim_of board.lines (way_taken m board.processors board.lines c)))) facts.is;
+          ∙ ap (λ c. finishing m board c f.supply (way_taken m board.processors board.lines c) f.swapped
+          (memory_after board.memory
+          (victim_of board.lines (way_taken m board.processors board.lines c)))) facts.is;
     }
 
 pub ok_same : {X : Type 0} (x y : X) → ◌≡◌ {A = Result X Refusal} (Ok x) (Ok y) → x ≡ y
@@ -95,7 +101,11 @@ module _ {m : Measures} {board : Board} {q : Request} {o : Outcome Answer}
   made_named = own_named q.command q.address d.supply.words made_state
 
   abbrev own_supply : Supply
-  own_supply = record { words = (line_at board.lines (line_of m board.lines q.processor (q.address / 4))).words; from = None }
+  own_supply = record {
+    words = (line_at board.lines (line_of m board.lines q.processor (q.address / 4))).words;
+    from =
+        None;
+  }
 
   abbrev asked : Result Supply Refusal
   asked = supplied_by m board.lines board.memory (q.address / 4) (supplier m board q)

@@ -35,7 +35,8 @@ use Rattle.law.proofs.Shapes.{found, action_of}
 use Rattle.law.proofs.Doing.{taken_with, Done, made_state, made_line, made_named, unasked_supply, purging_is, same_words, stale_by, takes_locked}
 
 module _ {m : Measures} (some_columns : 0 < m.columns) {board : Board} {q : Request}
-    (fit : length board.lines ≡ line_count m) (homed : Homed m (at_in board.lines)) {truth : ℕ → List ℕ} (coherent : Coherent (at_in board.lines) board.memory.words truth)
+    (fit : length board.lines ≡ line_count m) (homed : Homed m (at_in board.lines)) {truth : ℕ → List ℕ}
+    (coherent : Coherent (at_in board.lines) board.memory.words truth)
     {o : Outcome Answer} (d : Done m board q o) where
   abbrev pub block : ℕ
   block = q.address / 4
@@ -55,10 +56,12 @@ module _ {m : Measures} (some_columns : 0 < m.columns) {board : Board} {q : Requ
   -- in the own cache
   module _ (k : ℕ) (e : line_of m board.lines q.processor block ≡ Some k) where
     abbrev pub hit_at : ℕ → Line
-    hit_at = placed_at m some_columns board.lines fit homed q.processor block d.known bus k own (made_named d)
+    hit_at = placed_at m some_columns board.lines fit homed q.processor block d.known bus k own
+        (made_named d)
 
     pub moved : Moved m (at_in board.lines) hit_at block k q.processor bus own
-    moved = hit_moved m some_columns board.lines fit homed q.processor block d.known bus k own (made_named d) e
+    moved = hit_moved m some_columns board.lines fit homed q.processor block d.known bus k own
+        (made_named d) e
 
     at_place : FoundAt m board.lines q.processor block k
     at_place = found_at m some_columns board.lines fit homed q.processor block k d.known e
@@ -73,7 +76,8 @@ module _ {m : Measures} (some_columns : 0 < m.columns) {board : Board} {q : Requ
     cell = hit acting d.effect (found m board q) found_valid d.cell
 
     supply_is : d.supply ≡ record { words = (at_in board.lines k).words; from = None }
-    supply_is = unasked_supply d cell.unasked ∙ ap (λ p. record { words = (line_at board.lines p).words; from = None }) e
+    supply_is = unasked_supply d cell.unasked
+        ∙ ap (λ p. record { words = (line_at board.lines p).words; from = None }) e
 
     hit_left : left ≡ d.effect.from_memory
     hit_left = ap (λ s. state_left d.effect s.from) supply_is
@@ -85,7 +89,9 @@ module _ {m : Measures} (some_columns : 0 < m.columns) {board : Board} {q : Requ
     hit_untaken = by_found (is_unlock acting) (valid (found m board q)) found_valid
       where
         by_found : (u v : Bool) → v ≡ true
-            → cond (not u && not v) (Some (taken_way m board.lines q.processor block (get_or board.processors q.processor resting).turn)) None ≡ None
+            → cond (not u && not v)
+            (Some (taken_way m board.lines q.processor block
+            (get_or board.processors q.processor resting).turn)) None ≡ None
         by_found true v h = refl
         by_found false true h = refl
         by_found false false h = absurd (cc)
@@ -106,7 +112,8 @@ module _ {m : Measures} (some_columns : 0 < m.columns) {board : Board} {q : Requ
       where
         by_hit : Hit acting (found m board q) d.effect
             → Kind q.command q.address d.supply.words left moved coherent
-        by_hit (keeps quiet same w dr) = kept quiet stays (same_words d w) (purging_is d false dr) (stale_by d w)
+        by_hit (keeps quiet same w dr) =
+            kept quiet stays (same_words d w) (purging_is d false dr) (stale_by d w)
           where
             left_found : left ≡ (at_in board.lines k).state
             left_found = hit_left ∙ same ∙ found_is
@@ -119,7 +126,10 @@ module _ {m : Measures} (some_columns : 0 < m.columns) {board : Board} {q : Requ
 
             stays : own ≡ at_in board.lines k
             stays =
-                (λ i. in_state (record { state = left_found i; block = same_block i; words = kept_words i }) (left_found i))
-                ∙ in_valid_state (at_in board.lines k) (at_in board.lines k).state (copy_valid block (at_in board.lines k) at_place.copied)
+                (λ i. in_state
+                (record { state = left_found i; block = same_block i; words = kept_words i })
+                (left_found i))
+                ∙ in_valid_state (at_in board.lines k) (at_in board.lines k).state
+                (copy_valid block (at_in board.lines k) at_place.copied)
         by_hit (owns s em dr) = left_em (sole_only s) (hit_left ∙ em) (purging_is d false dr)
         by_hit (empties s i dr) = left_i (sole_only s) (hit_left ∙ i) (purging_is d true dr)

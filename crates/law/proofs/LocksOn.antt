@@ -20,7 +20,8 @@ pub record LocksHold (m : Measures) (b : Board) (l : Ledger) : Type 0 where
   pub listed : HoldersListed m l
   pub marked : AllMarked b.locks l
 
-pub locks_on : (m : Measures) (b : Board) (l : Ledger) → m.processors ≤ 8 → LocksHold m b l → HolderAlone m (at_in b.lines) l → OwnFound m b → (call : Call)
+pub locks_on : (m : Measures) (b : Board) (l : Ledger) → m.processors ≤ 8 → LocksHold m b l
+    → HolderAlone m (at_in b.lines) l → OwnFound m b → (call : Call)
     → LocksHold m (left_by m b call) (fed call (said_by m b call) l)
 locks_on m b l few h alone own (command q) =
     let o = command_rule m b q in
@@ -41,7 +42,8 @@ locks_on m b l few h alone own drain =
 locks_on m b l few h alone own census = h
 locks_on m b l few h alone own (question address) = h
 
-pub waits_on_locks : (m : Measures) (b : Board) (l : Ledger) → LocksHold m b l → HolderAlone m (at_in b.lines) l → OwnFound m b → (q : Request)
+pub waits_on_locks : (m : Measures) (b : Board) (l : Ledger) → LocksHold m b l
+    → HolderAlone m (at_in b.lines) l → OwnFound m b → (q : Request)
     → WaitsIf (locked_by_other m l q.processor (block_of q.address)) (command_rule m b q).answer
 waits_on_locks m b l h alone own q =
     waits_law m b l h.kept h.one alone h.listed own q (command_rule m b q) (shape m b q)

@@ -44,8 +44,10 @@ use Rattle.law.proofs.Words.{fresh}
 use Rattle.law.proofs.Doing.{taken_with, Done, ok_same, made_state, made_line, made_named, unasked_supply, asked_supply, fresh_made, purging_is, same_words, stale_by, takes_locked}
 
 module _ {m : Measures} (some_columns : 0 < m.columns) (some_ways : 0 < m.ways) {board : Board}
-    {q : Request} (fit : length board.lines ≡ line_count m) (homed : Homed m (at_in board.lines)) {truth : ℕ → List ℕ} (coherent : Coherent (at_in board.lines) board.memory.words truth)
-    {o : Outcome Answer} (d : Done m board q o) (e : line_of m board.lines q.processor (q.address / 4) ≡ None) where
+    {q : Request} (fit : length board.lines ≡ line_count m) (homed : Homed m (at_in board.lines))
+    {truth : ℕ → List ℕ} (coherent : Coherent (at_in board.lines) board.memory.words truth)
+    {o : Outcome Answer} (d : Done m board q o)
+    (e : line_of m board.lines q.processor (q.address / 4) ≡ None) where
   abbrev block : ℕ
   block = q.address / 4
 
@@ -68,34 +70,49 @@ module _ {m : Measures} (some_columns : 0 < m.columns) (some_ways : 0 < m.ways) 
   cell_is = ap (cell_of acting) (sym found_is) ∙ d.cell
 
   -- no cache has the block
-  none_there : supplier_of m board.lines q.processor block ≡ None → (i : ℕ) → copy (at_in board.lines) block i → ⊥
+  none_there : supplier_of m board.lines q.processor block ≡ None → (i : ℕ)
+      → copy (at_in board.lines) block i → ⊥
   none_there s i c =
-      found_none m some_columns board.lines fit homed q.processor block d.known e i c (supplier_none m some_columns board.lines fit homed q.processor block s i c)
+      found_none m some_columns board.lines fit homed q.processor block d.known e i c
+      (supplier_none m some_columns board.lines fit homed q.processor block s i c)
 
   -- where the words come from
   data Supplied : Type 0 where
     by_cache : left ≡ d.effect.from_cache → d.supply.words ≡ truth block → Supplied
-    by_memory : left ≡ d.effect.from_memory → d.supply.words ≡ truth block → ((i : ℕ) → copy (at_in board.lines) block i → ⊥) → Supplied
+    by_memory : left ≡ d.effect.from_memory → d.supply.words ≡ truth block
+        → ((i : ℕ) → copy (at_in board.lines) block i → ⊥) → Supplied
 
   supplied_so : asks_for_block bus ≡ true → Supplied
   supplied_so asks = by_copy (supplier_of m board.lines q.processor block) refl (asked_supply d asks)
     where
       by_memory_if : supplier_of m board.lines q.processor block ≡ None → (b : Bool)
-          → ◌≡◌ {A = Result Supply Refusal} (cond b (Ok (record { words = board.memory.words block; from = Some Memory })) (Err (RefusedByMemory block Read))) (Ok d.supply)
+          → ◌≡◌ {A = Result Supply Refusal}
+          (cond b (Ok (record { words = board.memory.words block; from = Some Memory }))
+          (Err (RefusedByMemory block Read))) (Ok d.supply)
           → Supplied
       by_memory_if s true h =
           let is = ok_same (record { words = board.memory.words block; from = Some Memory }) d.supply h in
           by_memory (ap (λ x. state_left d.effect x.from) (sym is))
-          (ap (λ x. x.words) (sym is) ∙ coherent.clean block (λ i c. absurd (none_there s i c))) (none_there s)
+          (ap (λ x. x.words) (sym is) ∙ coherent.clean block (λ i c. absurd (none_there s i c)))
+          (none_there s)
       by_memory_if s false h = absurd (cc)
 
-      by_copy : (r : Option ℕ) → supplier_of m board.lines q.processor block ≡ r → supplied_by m board.lines board.memory block r ≡ Ok d.supply → Supplied
+      by_copy : (r : Option ℕ) → supplier_of m board.lines q.processor block ≡ r
+          → supplied_by m board.lines board.memory block r ≡ Ok d.supply → Supplied
       by_copy (Some r) s h =
-          let is = ok_same (record { words = (line_at board.lines (line_of m board.lines r block)).words; from = Some (Cache r) }) d.supply h in
+          let is = ok_same
+          (record {
+            words =
+                (line_at board.lines (line_of m board.lines r block)).words;
+            from = Some (Cache r);
+          }) d.supply h
+          in
           let there = supplier_some m some_columns board.lines fit homed q.processor block r s in
-          let at_place = found_at m some_columns board.lines fit homed r block there.place there.listed there.found in
+          let at_place =
+          found_at m some_columns board.lines fit homed r block there.place there.listed there.found in
           by_cache (ap (λ x. state_left d.effect x.from) (sym is))
-          (ap (λ x. x.words) (sym is) ∙ ap (λ p. (line_at board.lines p).words) there.found ∙ coherent.agree block there.place at_place.copied)
+          (ap (λ x. x.words) (sym is) ∙ ap (λ p. (line_at board.lines p).words) there.found
+          ∙ coherent.agree block there.place at_place.copied)
       by_copy None s h = by_memory_if s (grants board.memory block) h
 
   -- a command that takes a way
@@ -118,12 +135,14 @@ module _ {m : Measures} (some_columns : 0 < m.columns) (some_ways : 0 < m.ways) 
     base = without (at_in board.lines) k
 
     abbrev pub miss_at : ℕ → Line
-    miss_at = placed_at m some_columns board.lines fit homed q.processor block d.known bus k own (made_named d)
+    miss_at = placed_at m some_columns board.lines fit homed q.processor block d.known bus k own
+        (made_named d)
 
     pub moved : Moved m base miss_at block k q.processor bus own
     moved =
         miss_moved m some_columns board.lines fit homed q.processor block d.known bus k own (made_named d)
-        (way_home m some_columns some_ways board.lines fit q.processor block (get_or board.processors q.processor resting).turn d.known) e
+        (way_home m some_columns some_ways board.lines fit q.processor block
+        (get_or board.processors q.processor resting).turn d.known) e
 
     cell : MissCell acting d.effect
     cell = miss acting d.effect takes_one cell_is
@@ -173,7 +192,8 @@ module _ {m : Measures} (some_columns : 0 < m.columns) (some_ways : 0 < m.ways) 
     -- a DW of a block that another cache has was refused
     made_alone : is_direct_write acting ≡ true → (i : ℕ) → copy (at_in board.lines) block i → ⊥
     made_alone h =
-        let nowhere = by_bools (is_direct_write acting) (valid (found m board q)) _ h (ap valid found_is) d.alone in
+        let nowhere =
+        by_bools (is_direct_write acting) (valid (found m board q)) _ h (ap valid found_is) d.alone in
         none_there (by_some (supplier_of m board.lines q.processor block) (or_parts _ _ nowhere).0)
       where
         by_bools : (w v r : Bool) → w ≡ true → v ≡ false → (w && not v && r) ≡ false → r ≡ false
@@ -188,27 +208,40 @@ module _ {m : Measures} (some_columns : 0 < m.columns) (some_ways : 0 < m.ways) 
     miss_left : Left
     miss_left = by_miss cell.kind
       where
-        by_reads : bus ≡ Some F → d.effect.from_cache ≡ S → d.effect.from_memory ≡ EC → writes acting ≡ false → drops acting ≡ false → Supplied → MissKind
+        by_reads : bus ≡ Some F → d.effect.from_cache ≡ S → d.effect.from_memory ≡ EC
+            → writes acting ≡ false → drops acting ≡ false → Supplied → MissKind
         by_reads f s ec w dr (by_cache l ws) =
-            left_s f (l ∙ s) (same_words d w) (purging_is d false dr) (stale_by d w) (λ i c same. miss_here (subst (λ x. copy base block x) same c))
+            left_s f (l ∙ s) (same_words d w) (purging_is d false dr) (stale_by d w)
+            (λ i c same. miss_here (subst (λ x. copy base block x) same c))
         by_reads f s ec w dr (by_memory l ws none) =
-            left_ec (alone_none none) (l ∙ ec) (same_words d w) (purging_is d false dr) (stale_by d w) (back none)
+            left_ec (alone_none none) (l ∙ ec) (same_words d w) (purging_is d false dr) (stale_by d w)
+            (back none)
 
-        by_takes : bus ≡ Some FI → d.effect.from_cache ≡ EM → (d.effect.from_memory ≡ EM) ⊎ ((d.effect.from_memory ≡ EC) × (writes acting ≡ false))
+        by_takes : bus ≡ Some FI → d.effect.from_cache ≡ EM
+            → (d.effect.from_memory ≡ EM) ⊎ ((d.effect.from_memory ≡ EC) × (writes acting ≡ false))
             → drops acting ≡ false → Supplied → MissKind
         by_takes f em which dr (by_cache l ws) = left_em (alone_fi f) (l ∙ em) (purging_is d false dr)
-        by_takes f em (inl same) dr (by_memory l ws none) = left_em (alone_fi f) (l ∙ same) (purging_is d false dr)
+        by_takes f em (inl same) dr (by_memory l ws none) =
+            left_em (alone_fi f) (l ∙ same) (purging_is d false dr)
         by_takes f em (inr ec) dr (by_memory l ws none) =
-            left_ec (alone_fi f) (l ∙ ec.0) (same_words d ec.1) (purging_is d false dr) (stale_by d ec.1) (back none)
+            left_ec (alone_fi f) (l ∙ ec.0) (same_words d ec.1) (purging_is d false dr) (stale_by d ec.1)
+            (back none)
 
-        by_purges : bus ≡ Some FI → d.effect.from_cache ≡ I → d.effect.from_memory ≡ I → drops acting ≡ true → Supplied → MissKind
+        by_purges : bus ≡ Some FI → d.effect.from_cache ≡ I → d.effect.from_memory ≡ I
+            → drops acting ≡ true → Supplied → MissKind
         by_purges f c i dr (by_cache l ws) = left_i (alone_fi f) (l ∙ c) (purging_is d true dr)
         by_purges f c i dr (by_memory l ws none) = left_i (alone_fi f) (l ∙ i) (purging_is d true dr)
 
         by_miss : Miss acting d.effect → Left
-        by_miss (reads_shared f s ec w dr) = let given = supplied_so (ap asks_for_block f) in record { kind = by_reads f s ec w dr given; words = λ h. words_by given }
-        by_miss (takes f em which dr) = let given = supplied_so (ap asks_for_block f) in record { kind = by_takes f em which dr given; words = λ h. words_by given }
-        by_miss (purges f c i dr) = let given = supplied_so (ap asks_for_block f) in record { kind = by_purges f c i dr given; words = λ h. words_by given }
+        by_miss (reads_shared f s ec w dr) =
+            let given = supplied_so (ap asks_for_block f) in
+            record { kind = by_reads f s ec w dr given; words = λ h. words_by given }
+        by_miss (takes f em which dr) =
+            let given = supplied_so (ap asks_for_block f) in
+            record { kind = by_takes f em which dr given; words = λ h. words_by given }
+        by_miss (purges f c i dr) =
+            let given = supplied_so (ap asks_for_block f) in
+            record { kind = by_purges f c i dr given; words = λ h. words_by given }
         by_miss (makes n w em dr) = record {
           kind = left_em (alone_none (made_alone w)) (unasked_memory n ∙ em) (purging_is d false dr);
           words = λ h. absurd (false≢true (sym h ∙ fresh_made d ∙ w));

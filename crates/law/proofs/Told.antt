@@ -37,11 +37,13 @@ use Rattle.protocol.specs.declared.answer.Answer.{Answer}
 use Rattle.cluster.specs.Board.{Board, Outcome, refusing, new_board}
 
 -- the tables keep their lengths
-length_settled : (c : Command) (a : ℕ) (locks : List LockEntry) (entry : Option ℕ) → length (locks_settled c a locks entry) ≡ length locks
+length_settled : (c : Command) (a : ℕ) (locks : List LockEntry) (entry : Option ℕ)
+    → length (locks_settled c a locks entry) ≡ length locks
 length_settled c a locks None = refl
 length_settled c a locks (Some place) = length-set locks place _
 
-length_processors : (m : Measures) (ps : List Processor) (locks : List LockEntry) (c : Case) (taken : Option Taken)
+length_processors : (m : Measures) (ps : List Processor) (locks : List LockEntry) (c : Case)
+    (taken : Option Taken)
     → length (processors_after m ps locks c taken) ≡ length ps
 length_processors m ps locks c taken = by_both (ul_sent c.command locks c.entry) (by_turn taken) refl refl
   where
@@ -49,7 +51,8 @@ length_processors m ps locks c taken = by_both (ul_sent c.command locks c.entry)
     turned true e = rw e (length-set ps c.processor _)
     turned false e = rw e refl
 
-    by_both : (u t : Bool) → ul_sent c.command locks c.entry ≡ u → by_turn taken ≡ t → length (processors_after m ps locks c taken) ≡ length ps
+    by_both : (u t : Bool) → ul_sent c.command locks c.entry ≡ u → by_turn taken ≡ t
+        → length (processors_after m ps locks c taken) ≡ length ps
     by_both true t e f = rw e (length-map _ 0 (turns_after m ps c taken) ∙ turned t f)
     by_both false t e f = rw e (turned t f)
 
@@ -57,12 +60,19 @@ module _ (m : Measures) (board : Board) (q : Request) where
   locks_long : (o : Outcome Answer) → Shape m board q o → length o.board.locks ≡ length board.locks
   locks_long o (refused e is) = ap (λ x. length x.board.locks) is
   locks_long o (waited w) = ap (λ x. length x.board.locks) w.is ∙ length-map _ 0 board.locks
-  locks_long o (finished f) = ap (λ x. length x.board.locks) f.is ∙ length_settled f.case.command f.case.address board.locks f.case.entry
+  locks_long o (finished f) =
+      ap (λ x. length x.board.locks) f.is
+      ∙ length_settled f.case.command f.case.address board.locks f.case.entry
 
-  processors_long : (o : Outcome Answer) → Shape m board q o → length o.board.processors ≡ length board.processors
+  processors_long : (o : Outcome Answer) → Shape m board q o
+      → length o.board.processors ≡ length board.processors
   processors_long o (refused e is) = ap (λ x. length x.board.processors) is
-  processors_long o (waited w) = ap (λ x. length x.board.processors) w.is ∙ length-set board.processors w.case.processor _
-  processors_long o (finished f) = ap (λ x. length x.board.processors) f.is ∙ length_processors m board.processors board.locks f.case (way_taken m board.processors board.lines f.case)
+  processors_long o (waited w) =
+      ap (λ x. length x.board.processors) w.is ∙ length-set board.processors w.case.processor _
+  processors_long o (finished f) =
+      ap (λ x. length x.board.processors) f.is
+      ∙ length_processors m board.processors board.locks f.case
+      (way_taken m board.processors board.lines f.case)
 
 -- a drain leaves processors and locks
 pub drain_left : (m : Measures) (b : Board)
@@ -72,7 +82,8 @@ drain_left m b = by_fit (lines_fit m b.lines)
   where
     by_fit : (f : Bool)
         → let d = drain_from 0 b.lines b.memory in
-        let o = cond f (record { answer = costed m d.answer; board = record b { lines = d.lines; memory = d.memory } })
+        let o = cond f
+        (record { answer = costed m d.answer; board = record b { lines = d.lines; memory = d.memory } })
         (refusing b TableLength) in
         (o.board.processors ≡ b.processors) × (o.board.locks ≡ b.locks)
     by_fit true = (refl, refl)
@@ -92,12 +103,14 @@ some_one false = refl
 pub accounts : (m : Measures) (b : Board) (l : Ledger) → Kept m b l → Accounts m b l
 accounts m b l k = record {
   locks = λ p a h.
-      first_counted (locks_from a a) (locks_start m p) (window_of (locks_start m p) m.lock_entries b.locks)
+      first_counted (locks_from a a) (locks_start m p)
+      (window_of (locks_start m p) m.lock_entries b.locks)
       ∙ ap (ltb 0) (k.held p h a) ∙ some_one (l.holds p a);
   waits = k.waits;
 }
 
-pub kept_on : (m : Measures) (b : Board) (l : Ledger) → m.processors ≤ 8 → Kept m b l → (call : Call) → Kept m (left_by m b call) (fed call (said_by m b call) l)
+pub kept_on : (m : Measures) (b : Board) (l : Ledger) → m.processors ≤ 8 → Kept m b l → (call : Call)
+    → Kept m (left_by m b call) (fed call (said_by m b call) l)
 kept_on m b l few k (command q) =
     let way = shape m b q in
     let o = command_rule m b q in
@@ -142,4 +155,5 @@ new_kept m mem = record {
 pub locks_told : LocksAreTold
 locks_told g mem =
     let m = g.measures in
-    throughout m (Accounts m) (Kept m) (accounts m) (λ b l. kept_on m b l g.few_processors) (new_board m mem) (opened mem) (new_kept m mem)
+    throughout m (Accounts m) (Kept m) (accounts m) (λ b l. kept_on m b l g.few_processors)
+    (new_board m mem) (opened mem) (new_kept m mem)

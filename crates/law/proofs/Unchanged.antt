@@ -21,27 +21,36 @@ use Rattle.law.proofs.Shapes as shapes
 use Rattle.law.proofs.Shapes.{Shape, shape}
 
 module _ (m : Measures) (b : Board) where
-  by_shape : (q : Request) (o : Outcome Answer) → Shape m b q o → refused (answered o.answer) ≡ true → o.board ≡ b
+  by_shape : (q : Request) (o : Outcome Answer) → Shape m b q o → refused (answered o.answer) ≡ true
+      → o.board ≡ b
   by_shape q o (shapes.refused e is) h = ap (λ x. x.board) is
-  by_shape q o (shapes.waited w) h = absurd (false≢true (ap (λ x. refused (answered x.answer)) (sym w.is) ∙ h))
-  by_shape q o (shapes.finished f) h = absurd (false≢true (ap (λ x. refused (answered x.answer)) (sym f.is) ∙ h))
+  by_shape q o (shapes.waited w) h =
+      absurd (false≢true (ap (λ x. refused (answered x.answer)) (sym w.is) ∙ h))
+  by_shape q o (shapes.finished f) h =
+      absurd (false≢true (ap (λ x. refused (answered x.answer)) (sym f.is) ∙ h))
 
 -- only memory stops a drain that has begun
 back_calm : (mem : Mem) (line : Line) → refused_at_once (written_back mem line) ≡ false
 back_calm mem line = by_state (modified line.state) (grants mem line.block)
   where
-    by_state : (b g : Bool) → refused_at_once {X = ℕ} (cond b (cond g (Ok 1) (Err (Memory line.block Write))) (Ok 0)) ≡ false
+    by_state : (b g : Bool) → refused_at_once {X = ℕ}
+        (cond b (cond g (Ok 1) (Err (Memory line.block Write))) (Ok 0)) ≡ false
     by_state false g = refl
     by_state true true = refl
     by_state true false = refl
 
-calm : (lines : List Line) (blocks : ℕ) (mem : Mem) → refused_at_once (drain_from blocks lines mem).answer ≡ false
+calm : (lines : List Line) (blocks : ℕ) (mem : Mem)
+    → refused_at_once (drain_from blocks lines mem).answer ≡ false
 calm [] blocks mem = refl
-calm (line ∷ lines) blocks mem = by_back (written_back mem line) (back_calm mem line) (λ k. calm lines (blocks + k) (memory_back mem line))
+calm (line ∷ lines) blocks mem =
+    by_back (written_back mem line) (back_calm mem line)
+    (λ k. calm lines (blocks + k) (memory_back mem line))
   where
     by_back : (r : Result ℕ Refusal) → refused_at_once r ≡ false
-        → ((k : ℕ) → refused_at_once (drain_from (blocks + k) lines (memory_back mem line)).answer ≡ false)
-        → refused_at_once (unless_stopped r (record { answer = Ok blocks; lines = line ∷ lines; memory = mem })
+        → ((k : ℕ) → refused_at_once (drain_from (blocks + k) lines (memory_back mem line)).answer
+        ≡ false)
+        → refused_at_once
+        (unless_stopped r (record { answer = Ok blocks; lines = line ∷ lines; memory = mem })
         (λ k. behind blank_line (drain_from (blocks + k) lines (memory_back mem line)))).answer ≡ false
     by_back (Ok k) h rest = rest k
     by_back (Err e) h rest = h
@@ -57,7 +66,10 @@ module _ (m : Measures) (b : Board) where
     where
       by_fit : (f : Bool) → lines_fit m b.lines ≡ f → left_by m b drain ≡ b
       by_fit false e = rw (left_by, e) refl
-      by_fit true e = absurd (false≢true (sym (costed_calm m (drain_from 0 b.lines b.memory).answer ∙ calm b.lines 0 b.memory) ∙ (rw e at h)))
+      by_fit true e =
+          absurd (false≢true
+          (sym (costed_calm m (drain_from 0 b.lines b.memory).answer ∙ calm b.lines 0 b.memory)
+          ∙ (rw e at h)))
 
 pub unchanged : RefusalsChangeNothing
 unchanged m b (command q) h = by_shape m b q (command_rule m b q) (shape m b q) h

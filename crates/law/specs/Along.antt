@@ -17,8 +17,11 @@ LawFrom g cluster lines locks =
     (mem : Mem) → Lawful mem → (calls : List Call)
     → Throughout (Law g.measures) g.measures (board_of cluster lines locks mem) (opened mem) calls
 
--- where calls from a new cluster over a lawful memory leave this, it holds here and after each of the calls that follow
+-- where calls from a new cluster over a lawful memory leave this, it holds here and after each of the
+-- calls that follow
 abbrev pub LawAlong : Geometry → Board → List Call → Type 0
 LawAlong g b following =
-    (mem : Mem) → Lawful mem → (calls : List Call) → b ≡ left_along g.measures (new_board g.measures mem) calls
-    → Throughout (Law g.measures) g.measures b (ledger_along g.measures (new_board g.measures mem) (opened mem) calls) following
+    (mem : Mem) → Lawful mem → (calls : List Call)
+    → b ≡ left_along g.measures (new_board g.measures mem) calls
+    → Throughout (Law g.measures) g.measures b
+    (ledger_along g.measures (new_board g.measures mem) (opened mem) calls) following

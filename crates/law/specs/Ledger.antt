@@ -9,7 +9,7 @@ use Rattle.protocol.specs.declared.refusal.Refusal.{Refusal}
 use Rattle.memory.specs.Meaning.{Mem}
 use Rattle.law.specs.Calls.{Call, command, Said, answered}
 
--- the word at each address, the addresses that each processor holds locks at, the block that it waits for
+-- the word at each address, the addresses that a processor holds locks at, the block it waits for
 pub record Ledger : Type 0 where
   pub words : ℕ → Option ℕ
   pub holds : ℕ → ℕ → Bool
@@ -25,7 +25,7 @@ word_at mem address = slice_index (mem.words (block_of address)) (address % 4)
 abbrev pub opened : Mem → Ledger
 opened mem =
     record {
-      words = λ address. if nat_lt address (4 * mem.count) then Some (word_at mem address) else None;
+      words = λ a. if nat_lt a (4 * mem.count) then Some (word_at mem a) else None;
       holds = λ processor address. false;
       waits = λ processor. None;
     }
@@ -35,13 +35,16 @@ entered address word l = record l { words = λ a. if a == address then Some word
 
 -- a DW at a start enters its word and 0 for the other three addresses
 abbrev block_entered : ℕ → ℕ → Ledger → Ledger
-block_entered address word l = record l { words = λ a. if block_of a == block_of address then Some (if a == address then word else 0) else l.words a }
+block_entered address word l =
+    let made : ℕ → Option ℕ = λ a. Some (if a == address then word else 0) in
+    record l { words = λ a. if block_of a == block_of address then made a else l.words a }
 
 abbrev purged : ℕ → Ledger → Ledger
 purged block l = record l { words = λ a. if block_of a == block then None else l.words a }
 
 abbrev holding : ℕ → ℕ → Bool → Ledger → Ledger
-holding processor address held l = record l { holds = λ p a. if p == processor && a == address then held else l.holds p a }
+holding processor address held l =
+    record l { holds = λ p a. if p == processor && a == address then held else l.holds p a }
 
 abbrev pub waits_in : ℕ → Option ℕ → Bool
 waits_in block None = false
@@ -51,16 +54,19 @@ abbrev awake : ℕ → Ledger → Ledger
 awake block l = record l { waits = λ p. if waits_in block (l.waits p) then None else l.waits p }
 
 abbrev waiting : ℕ → ℕ → Ledger → Ledger
-waiting processor block l = record l { waits = λ p. if p == processor then Some block else l.waits p }
+waiting processor block l =
+    record l { waits = λ p. if p == processor then Some block else l.waits p }
 
 abbrev pub released : ℕ → ℕ → Bool → Ledger → Ledger
 released processor address ul l =
-    let after = holding processor address false l in if ul then awake (block_of address) after else after
+    let after = holding processor address false l in
+    if ul then awake (block_of address) after else after
 
 -- a done command
 abbrev pub done_by : ℕ → ℕ → Bool → Command → Ledger → Ledger
 done_by processor address ul (W word) l = entered address word l
-done_by processor address ul (DW word) l = if address % 4 == 0 then block_entered address word l else entered address word l
+done_by processor address ul (DW word) l =
+    if address % 4 == 0 then block_entered address word l else entered address word l
 done_by processor address ul RP l = purged (block_of address) l
 done_by processor address ul RB l = if address % 4 == 3 then purged (block_of address) l else l
 done_by processor address ul LR l = holding processor address true l

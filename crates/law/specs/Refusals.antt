@@ -40,4 +40,6 @@ refused (told r) = refuses r
 
 -- for every cluster, whatever its tables and its memory hold
 abbrev pub RefusalsChangeNothing : Type 0
-RefusalsChangeNothing = (m : Measures) (b : Board) (call : Call) → refused (said_by m b call) ≡ true → left_by m b call ≡ b
+RefusalsChangeNothing =
+    (m : Measures) (b : Board) (call : Call) → refused (said_by m b call) ≡ true
+    → left_by m b call ≡ b

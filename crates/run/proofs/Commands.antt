@@ -18,7 +18,12 @@ module _ (m : Measures) (records : List Record) where
       (when_some o (λ i. shown m records s i ∷ steps_from m records n (stepped m records s i)) [])
   unfolding stepped shown
   one_more n s None rest = record { left = refl; answers = refl }
-  one_more n s (Some i) rest = record { left = (rest i).left; answers = λ k. answered (shown m records s i).answer ∷ (rest i).answers k }
+  one_more n s (Some i) rest =
+      record {
+        left =
+            (rest i).left;
+        answers = λ k. answered (shown m records s i).answer ∷ (rest i).answers k;
+      }
 
   commands_from : (n : ℕ) (s : Running) → Along n s
   unfolding run_from steps_from

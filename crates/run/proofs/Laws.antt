@@ -11,7 +11,8 @@ use Rattle.law.specs.Ledger.{opened}
 use Rattle.law.proofs.Lawful.{law_holds}
 use Rattle.run.specs.Board.{IsNew}
 
-pub law_from : (g : Geometry) (c : Cluster) (lines : List Line) (locks : List LockEntry) → IsNew g c lines locks
+pub law_from : (g : Geometry) (c : Cluster) (lines : List Line) (locks : List LockEntry)
+    → IsNew g c lines locks
     → LawFrom g c lines locks
 law_from g c lines locks new mem lawful calls =
     subst (λ b. Throughout (Law g.measures) g.measures b (opened mem) calls) (sym (new.board mem))

@@ -16,15 +16,18 @@ module _ (m : Measures) (b : Board) (bytes : List ℕ) where
   fits : (x : Unit {0}) → Ok x ≡ cond fit (Ok tt) (Err TableLength) → fit ≡ true
   fits x told = by_fit fit told
     where
-      by_fit : (b : Bool) → ◌≡◌ {A = Result (Unit {0}) Refusal} (Ok x) (cond b (Ok tt) (Err TableLength)) → b ≡ true
+      by_fit : (b : Bool) → ◌≡◌ {A = Result (Unit {0}) Refusal} (Ok x) (cond b (Ok tt) (Err TableLength))
+          → b ≡ true
       by_fit true told = refl
       by_fit false told = cc
 
-  pub read_and_run : (x : Unit {0}) (content : Content) → Ok x ≡ cond fit (Ok tt) (Err TableLength) → Ok content ≡ trace_of bytes
+  pub read_and_run : (x : Unit {0}) (content : Content) → Ok x ≡ cond fit (Ok tt) (Err TableLength)
+      → Ok content ≡ trace_of bytes
       → ran_all m b content.records ≡ run_rule m b bytes
   unfolding run_rule
   read_and_run x content fit_told told = rw (fits x fit_told, ← told) refl
 
-  pub ended : (content : Content) → Ok content ≡ trace_of bytes → due m content.records (end_of m b content.records) ≡ None
+  pub ended : (content : Content) → Ok content ≡ trace_of bytes
+      → due m content.records (end_of m b content.records) ≡ None
       → Ended m b (trace_of bytes)
   ended content told h = rw (← told) h

@@ -11,7 +11,13 @@ use Rattle.cluster.specs.Board.{board_of, new_board}
 
 abbrev pub listing_measures : ℕ → Measures
 listing_measures processors =
-    record { processors = processors; columns = 16; ways = 4; lock_entries = 2; costs = standard_costs }
+    record {
+      processors = processors;
+      columns = 16;
+      ways = 4;
+      lock_entries = 2;
+      costs = standard_costs;
+    }
 
 -- a cluster and tables that are new, whatever memory they are used with
 pub record IsNew (g : Geometry) (c : Cluster) (lines : List Line) (locks : List LockEntry) : Type 0 where

@@ -39,11 +39,11 @@ fn put_steps<M: Memory>(
     memory: &mut M,
     trace: Trace,
 ) -> Result<Summary, AllocError>
-    ensures summary { let before = board_of cluster.old lines.old locks.old (M.Memory.model memory.old) in
+    ensures summary { let before = board_of cluster.old lines.old locks.old (M.model memory.old) in
         let records = records_of trace.entry.records.now in
         let end = end_of cluster.old.geometry.measures before records in
         IfOk result (λ s. s ≡ summary_of cluster.old.geometry.measures records end) }
-    ensures lines { let before = board_of cluster.old lines.old locks.old (M.Memory.model memory.old) in
+    ensures lines { let before = board_of cluster.old lines.old locks.old (M.model memory.old) in
         let records = records_of trace.entry.records.now in
         let steps = steps_of cluster.old.geometry.measures records (started records before) in
         OnOk result (out.new.items ≡ out.old.items ++ lines_of steps) }

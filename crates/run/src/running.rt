@@ -26,18 +26,18 @@ impl<'a> Run<'a> {
         locks: &mut [LockEntry],
         memory: &mut M,
     )
-        requires { let before = board_of cluster.old lines.old locks.old (M.Memory.model memory.old) in
+        requires { let before = board_of cluster.old lines.old locks.old (M.model memory.old) in
             self.old.steps + to_go_on cluster.old.geometry.measures self.old before ≤ 999999999 }
-        ensures after { let before = board_of cluster.old lines.old locks.old (M.Memory.model memory.old) in
-            let after = board_of cluster.new lines.new locks.new (M.Memory.model memory.new) in
+        ensures after { let before = board_of cluster.old lines.old locks.old (M.model memory.old) in
+            let after = board_of cluster.new lines.new locks.new (M.model memory.new) in
             state_of self.new after
             ≡ ran cluster.old.geometry.measures (records_for self.old) (state_of self.old before) }
-        ensures ended { let after = board_of cluster.new lines.new locks.new (M.Memory.model memory.new) in
+        ensures ended { let after = board_of cluster.new lines.new locks.new (M.model memory.new) in
             let state = state_of self.new after in
             due cluster.old.geometry.measures (records_for self.old) state ≡ None }
         ensures trace { self.new.trace ≡ self.old.trace }
         ensures geometry { cluster.new.geometry ≡ cluster.old.geometry }
-        ensures kept { M.Memory.standing memory.new ≡ M.Memory.standing memory.old }
+        ensures kept { M.standing memory.new ≡ M.standing memory.old }
     {
         while self.step(cluster, lines, locks, memory).is_some() {}
     }
@@ -52,22 +52,22 @@ pub fn run_trace<M: Memory>(
     memory: &mut M,
     bytes: &[u8],
 ) -> Result<Summary, Refusal>
-    ensures answer { let before = board_of cluster.old lines.old locks.old (M.Memory.model memory.old) in
+    ensures answer { let before = board_of cluster.old lines.old locks.old (M.model memory.old) in
         result ≡ (run_rule cluster.old.geometry.measures before bytes.now).answer }
-    ensures board { let before = board_of cluster.old lines.old locks.old (M.Memory.model memory.old) in
-        board_of cluster.new lines.new locks.new (M.Memory.model memory.new)
+    ensures board { let before = board_of cluster.old lines.old locks.old (M.model memory.old) in
+        board_of cluster.new lines.new locks.new (M.model memory.new)
         ≡ (run_rule cluster.old.geometry.measures before bytes.now).board }
-    ensures ended { let before = board_of cluster.old lines.old locks.old (M.Memory.model memory.old) in
+    ensures ended { let before = board_of cluster.old lines.old locks.old (M.model memory.old) in
         OnOk result (Ended cluster.old.geometry.measures before (trace_of bytes.now)) }
-    ensures commands { let before = board_of cluster.old lines.old locks.old (M.Memory.model memory.old) in
-        let after = board_of cluster.new lines.new locks.new (M.Memory.model memory.new) in
+    ensures commands { let before = board_of cluster.old lines.old locks.old (M.model memory.old) in
+        let after = board_of cluster.new lines.new locks.new (M.model memory.new) in
         let steps = steps_on cluster.old.geometry.measures before (trace_of bytes.now) in
         OnOk result (AsCommands cluster.old.geometry.measures before after steps) }
-    ensures law { let before = board_of cluster.old lines.old locks.old (M.Memory.model memory.old) in
+    ensures law { let before = board_of cluster.old lines.old locks.old (M.model memory.old) in
         let steps = steps_on cluster.old.geometry.measures before (trace_of bytes.now) in
         OnOk result (LawAlong cluster.old.geometry before (issued steps)) }
     ensures geometry { cluster.new.geometry ≡ cluster.old.geometry }
-    ensures kept { M.Memory.standing memory.new ≡ M.Memory.standing memory.old }
+    ensures kept { M.standing memory.new ≡ M.standing memory.old }
 {
     cluster.check_tables(lines, locks)?;
     let mut run = Run::start(Trace::read(bytes)?);

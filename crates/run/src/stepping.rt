@@ -104,19 +104,19 @@ impl<'a> Run<'a> {
         memory: &mut M,
     ) -> Option<Step>
         requires { self.old.steps < 1000000000 }
-        ensures value { let before = board_of cluster.old lines.old locks.old (M.Memory.model memory.old) in
+        ensures value { let before = board_of cluster.old lines.old locks.old (M.model memory.old) in
             result ≡ next_step cluster.old.geometry.measures self.old before }
-        ensures after { let before = board_of cluster.old lines.old locks.old (M.Memory.model memory.old) in
-            let after = board_of cluster.new lines.new locks.new (M.Memory.model memory.new) in
+        ensures after { let before = board_of cluster.old lines.old locks.old (M.model memory.old) in
+            let after = board_of cluster.new lines.new locks.new (M.model memory.new) in
             state_of self.new after ≡ after_step cluster.old.geometry.measures self.old before }
         ensures stepped { let count = records_in self.old.trace.records.now in
             let before = cluster.old.processors in
             Stepped count result self.old self.new before cluster.new.processors }
-        ensures less { let before = board_of cluster.old lines.old locks.old (M.Memory.model memory.old) in
+        ensures less { let before = board_of cluster.old lines.old locks.old (M.model memory.old) in
             OnSome result (Falls cluster.old.geometry.measures self.old before) }
         ensures trace { self.new.trace ≡ self.old.trace }
         ensures geometry { cluster.new.geometry ≡ cluster.old.geometry }
-        ensures kept { M.Memory.standing memory.new ≡ M.Memory.standing memory.old }
+        ensures kept { M.standing memory.new ≡ M.standing memory.old }
     {
         let processor = self.due(cluster)?;
         let next = self.trace.record(self.next[processor as usize])?;

@@ -20,9 +20,9 @@ pub struct Drained {
 
 // Writes the line's block if it is modified. How many blocks that were.
 fn write_back<M: Memory>(memory: &mut M, line: Line) -> Result<u32, Refusal>
-    ensures answer { result ≡ written_back (M.Memory.model memory.old) line }
-    ensures after { M.Memory.model memory.new ≡ memory_back (M.Memory.model memory.old) line }
-    ensures kept { M.Memory.standing memory.new ≡ M.Memory.standing memory.old }
+    ensures answer { result ≡ written_back (M.model memory.old) line }
+    ensures after { M.model memory.new ≡ memory_back (M.model memory.old) line }
+    ensures kept { M.standing memory.new ≡ M.standing memory.old }
     ensures few { IfOk result (λ n. n ≤ 1) }
 {
     if !line.state.is_modified() {
@@ -35,13 +35,13 @@ fn write_back<M: Memory>(memory: &mut M, line: Line) -> Result<u32, Refusal>
 // Goes through the lines in order. A refused write stops it there and keeps what it did.
 fn drain_lines<M: Memory>(lines: &mut [Line], memory: &mut M) -> Result<u32, Refusal>
     requires { length lines.old ≤ 8192 }
-    ensures answer { let drained = drain_from 0 lines.old (M.Memory.model memory.old) in
+    ensures answer { let drained = drain_from 0 lines.old (M.model memory.old) in
         result ≡ drained.answer }
-    ensures lines { let drained = drain_from 0 lines.old (M.Memory.model memory.old) in
+    ensures lines { let drained = drain_from 0 lines.old (M.model memory.old) in
         lines.new ≡ drained.lines }
-    ensures memory { let drained = drain_from 0 lines.old (M.Memory.model memory.old) in
-        M.Memory.model memory.new ≡ drained.memory }
-    ensures kept { M.Memory.standing memory.new ≡ M.Memory.standing memory.old }
+    ensures memory { let drained = drain_from 0 lines.old (M.model memory.old) in
+        M.model memory.new ≡ drained.memory }
+    ensures kept { M.standing memory.new ≡ M.standing memory.old }
     ensures few { IfOk result (λ n. n ≤ 8192) }
 {
     let mut blocks = 0;
@@ -62,13 +62,13 @@ pub fn drain<M: Memory>(
     memory: &mut M,
 ) -> Result<Drained, Refusal>
     ensures answer { (locks : List LockEntry) →
-        let before = board_of cluster.now lines.old locks (M.Memory.model memory.old) in
+        let before = board_of cluster.now lines.old locks (M.model memory.old) in
         result ≡ (drain_rule cluster.now.geometry.measures before).answer }
     ensures board { (locks : List LockEntry) →
-        let before = board_of cluster.now lines.old locks (M.Memory.model memory.old) in
-        board_of cluster.now lines.new locks (M.Memory.model memory.new)
+        let before = board_of cluster.now lines.old locks (M.model memory.old) in
+        board_of cluster.now lines.new locks (M.model memory.new)
         ≡ (drain_rule cluster.now.geometry.measures before).board }
-    ensures kept { M.Memory.standing memory.new ≡ M.Memory.standing memory.old }
+    ensures kept { M.standing memory.new ≡ M.standing memory.old }
     ensures counted { let rows = census_of cluster.now.geometry.measures lines.old in
         IfOk result (λ d. d.blocks ≡ modified_in rows) }
 {

@@ -13,7 +13,8 @@ returns-in-NotHeld g c =
     let p = c.args.processor in
     let a = c.args.address in
     let m = c.args.cluster.now.geometry.measures in
-    let b = board_of c.args.cluster.now c.args.lines.now c.args.locks.now (g.M.Memory.model c.args.memory.now) in
+    let b = board_of c.args.cluster.now c.args.lines.now c.args.locks.now
+    (g.M.Memory.model c.args.memory.now) in
     let t = c.in-NotHeld.ensures in
     let s = stops m p a b (hold_at p a) _ _ t.answer in
     let made = s.answered ∙ ap (λ (o : Outcome Answer). o.answer) s.rule in

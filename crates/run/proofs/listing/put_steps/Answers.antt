@@ -23,7 +23,8 @@ loop-step-init g c =
     let all = out ++ lines_of (steps_of m recs first) in
     let Here : Running → Type 0
     = λ x. (fuel : ℕ) × Going m recs first x fuel × (out ++ lines_of (steps_from m recs fuel x) ≡ all) in
-    let going = going_start m recs first (start_few m recs first cluster.geometry.few_processors (few_records c.args.trace) refl) in
+    let going = going_start m recs first
+    (start_few m recs first cluster.geometry.few_processors (few_records c.args.trace) refl) in
     (subst Here (sym start) (to_go m recs first, going, refl), told.trace, refl)
 
 pub loop-step-preserved : goal.loop-step-preserved
@@ -33,7 +34,9 @@ loop-step-preserved g c =
     let step = c.in-Some.step in
     let was = vec_items c.loop-step.out in
     let further = goes_on _ _ _ _ inv.2 inv.1 _ _ _ _ inv.0.1 step told.value told.after told.less in
-    let rest = lines_of (steps_from c.args.cluster.now.geometry.measures (records_of c.args.trace.records.now) further.rest _) in
+    let rest = lines_of
+    (steps_from c.args.cluster.now.geometry.measures (records_of c.args.trace.records.now) further.rest _)
+    in
     let lines = ap (λ l. l ++ rest) c.in_ok-put_step.ensures ∙ append_assoc was (line_of step) rest
     ∙ ap (λ steps. was ++ lines_of steps) (sym further.head) ∙ inv.0.2 in
     ((further.rest, further.going, lines), told.trace ∙ inv.1, told.geometry ∙ inv.2)
@@ -50,6 +53,7 @@ returns g c =
     let stop = stops _ _ _ _ inv.2 inv.1 _ _ _ _ inv.0.1 told.value told.after in
     let kept = ap (λ t. records_of t.records.now) (told.trace ∙ inv.1) in
     record {
-      summary = c.summary.ensures.value ∙ summed m last.self recs left kept ∙ ap (summary_of m recs) stop.end;
+      summary = c.summary.ensures.value ∙ summed m last.self recs left kept
+          ∙ ap (summary_of m recs) stop.end;
       lines = sym (append-nil was) ∙ ap (λ steps. was ++ lines_of steps) (sym stop.no_more) ∙ inv.0.2;
     }

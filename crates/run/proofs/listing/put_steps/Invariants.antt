@@ -11,14 +11,17 @@ abbrev pub invariant-loop-step : goal.invariant-loop-step
 invariant-loop-step g l =
     let recs = records_of l.fn.trace.records.now in
     let m = l.initial.cluster.geometry.measures in
-    let before = board_of l.initial.cluster l.initial.lines l.initial.locks (g.M.Memory.model l.initial.memory) in
+    let before = board_of l.initial.cluster l.initial.lines l.initial.locks
+    (g.M.Memory.model l.initial.memory) in
     let first = started recs before in
     let here = state_of l.run (board_of l.cluster l.lines l.locks (g.M.Memory.model l.memory)) in
     ((fuel : ℕ) × Going m recs first here fuel
-    × (vec_items l.out ++ lines_of (steps_from m recs fuel here) ≡ vec_items l.initial.out ++ lines_of (steps_of m recs first)))
+    × (vec_items l.out ++ lines_of (steps_from m recs fuel here)
+    ≡ vec_items l.initial.out ++ lines_of (steps_of m recs first)))
     × (l.run.trace ≡ l.fn.trace)
     × (l.cluster.geometry ≡ l.initial.cluster.geometry)
 
 abbrev pub decreases-loop-step : goal.decreases-loop-step
 decreases-loop-step g l =
-    to_go_on l.cluster.geometry.measures l.run (board_of l.cluster l.lines l.locks (g.M.Memory.model l.memory))
+    to_go_on l.cluster.geometry.measures l.run
+    (board_of l.cluster l.lines l.locks (g.M.Memory.model l.memory))

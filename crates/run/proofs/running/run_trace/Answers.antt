@@ -24,13 +24,15 @@ pub returns : goal.returns
 returns g c =
     let cluster = c.args.cluster.now in
     let m = cluster.geometry.measures in
-    let before = board_of cluster c.args.lines.now c.args.locks.now (g.M.Memory.model c.args.memory.now) in
+    let before = board_of cluster c.args.lines.now c.args.locks.now (g.M.Memory.model c.args.memory.now)
+    in
     let bytes = c.args.bytes.now in
     let t = c.in_ok-read.field-0 in
     let content = content_of t.processors t.records.now in
     let recs = content.records in
     let value = c.in_ok-read.ensures.value in
-    let rule = read_and_run m before bytes c.in_ok-check_tables.field-0 content c.in_ok-check_tables.ensures value in
+    let rule = read_and_run m before bytes c.in_ok-check_tables.field-0 content
+    c.in_ok-check_tables.ensures value in
     let run = c.start-run.result in
     let told = c.start-run.ensures in
     let alike : records_for run ≡ recs = ap (λ x. records_of x.records.now) told.trace in
@@ -40,8 +42,10 @@ returns g c =
     let done = c.finish.ensures in
     let s' = state_of last.self left in
     let end : s' ≡ end_of m before recs = done.after ∙ (λ k. ran m (alike k) (start k)) in
-    let kept : records_for last.self ≡ recs = ap (λ x. records_of x.records.now) (done.trace ∙ told.trace) in
-    let summary = c.summary.ensures.value ∙ summed m last.self recs left kept ∙ ap (summary_of m recs) end in
+    let kept : records_for last.self ≡ recs =
+    ap (λ x. records_of x.records.now) (done.trace ∙ told.trace) in
+    let summary =
+    c.summary.ensures.value ∙ summed m last.self recs left kept ∙ ap (summary_of m recs) end in
     record {
       answer = ap Ok summary ∙ ap (λ x. x.answer) rule;
       board = ap (λ x. x.board) end ∙ ap (λ x. x.board) rule;

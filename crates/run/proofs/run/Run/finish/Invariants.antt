@@ -16,4 +16,5 @@ invariant-loop g l =
 
 abbrev pub decreases-loop : goal.decreases-loop
 decreases-loop g l =
-    to_go_on l.cluster.geometry.measures l.self (board_of l.cluster l.lines l.locks (g.M.Memory.model l.memory))
+    to_go_on l.cluster.geometry.measures l.self
+    (board_of l.cluster l.lines l.locks (g.M.Memory.model l.memory))

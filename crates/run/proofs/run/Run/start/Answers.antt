@@ -9,5 +9,6 @@ invariant_of-result-clause-settled c =
 pub returns-clause-first : goal.returns-clause-first
 returns-clause-first c b =
     let t = c.args.trace in
-    let all = all_unfinished t.processors t.records.now t.sound t.served.1 _ c.first_records.ensures.each in
+    let all = all_unfinished t.processors t.records.now t.sound t.served.1 _ c.first_records.ensures.each
+    in
     λ k. record { board = b; unfinished = all k; steps = 0; cycles = 0 }

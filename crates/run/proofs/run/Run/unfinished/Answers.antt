@@ -9,7 +9,8 @@ use Rattle.run.proofs.run.Run.unfinished.Goals as goal
 pub bounds-self-record : goal.bounds-self-record
 bounds-self-record c =
     let t = c.args.self.now.trace in
-    let there = record_there t.processors t.records.now t.sound t.served.1 c.args.index c.in-Some.record c.in-Some.ensures.value in
+    let there = record_there t.processors t.records.now t.sound t.served.1 c.args.index c.in-Some.record
+    c.in-Some.ensures.value in
     let below = low t.processors t.records.now t.sound t.served.1 c.args.index there.0 in
     omega (arith, below, ap (λ q. q.processor) there.1)
 
@@ -19,8 +20,11 @@ returns-in-Some c =
     let run = c.args.self.now in
     let t = run.trace in
     let i = c.args.index in
-    let there = record_there t.processors t.records.now t.sound t.served.1 i c.in-Some.record c.in-Some.ensures.value in
+    let there = record_there t.processors t.records.now t.sound t.served.1 i c.in-Some.record
+    c.in-Some.ensures.value in
     let all = many t.processors t.records.now t.sound t.served.1 in
-    let listed : ltb i (length (records_of t.records.now)) ≡ true = grind (arith, nat_tests, all, there) in
+    let listed : ltb i (length (records_of t.records.now)) ≡ true =
+    grind (arith, nat_tests, all, there) in
     ap (λ q. leb (get_or run.next q.processor 0) i) there.1
-    ∙ ap (λ b. b && leb (get_or run.next (request_at (records_of t.records.now) i).processor 0) i) (sym listed)
+    ∙ ap (λ b. b && leb (get_or run.next (request_at (records_of t.records.now) i).processor 0) i)
+    (sym listed)
