@@ -18,7 +18,8 @@ use protocol::lock::LockEntry;
 use protocol::refusal::Refusal;
 
 impl Cluster {
-    // Refuses a line table of wrong length with 2.
+    /// Checks that a line table has processors x columns x ways lines. Refuses another length with
+    /// 2.
     pub fn check_lines(&self, lines: &[Line]) -> Result<(), Refusal>
         ensures { let fits = length lines.now == line_count self.now.geometry.measures in
             result ≡ (if fits then Ok tt else Err Refusal.TableLength) }
@@ -29,7 +30,8 @@ impl Cluster {
         Ok(())
     }
 
-    // Refuses a lock table of wrong length with 2.
+    /// Checks that a lock table has processors x lock entries entries. Refuses another length with
+    /// 2.
     pub fn check_locks(&self, locks: &[LockEntry]) -> Result<(), Refusal>
         ensures { let fits = length locks.now == lock_count self.now.geometry.measures in
             result ≡ (if fits then Ok tt else Err Refusal.TableLength) }
@@ -40,16 +42,24 @@ impl Cluster {
         Ok(())
     }
 
+    /// Checks the lengths of both tables. Refuses a wrong one with 2.
     pub fn check_tables(&self, lines: &[Line], locks: &[LockEntry]) -> Result<(), Refusal>
-        ensures { let fits = tables_fit self.now.geometry.measures (length lines.now) (length locks.now) in
+        ensures { let measures = self.now.geometry.measures in
+            let fits = tables_fit measures (length lines.now) (length locks.now) in
             result ≡ (if fits then Ok tt else Err Refusal.TableLength) }
     {
         self.check_lines(lines)?;
         self.check_locks(locks)
     }
 
-    // Issues a command for a processor. The tables and the memory are lent to each call, and each by itself: so this project
-    // asks, and so the contract can say of each what is in it afterwards.
+    /// Issues a command for a processor at a word address: answers done, or WAIT where the command
+    /// meets another processor's lock, with their bus cycles. Refuses with 2 to 11 in that order,
+    /// and then nothing changes: a table of wrong length, no such processor, an address beyond
+    /// memory, a processor that waits, a lock that it holds, no empty lock entry, no such lock, a
+    /// direct write where another has a copy or a lock, a machine check, and a block that memory
+    /// refuses.
+    // The tables and the memory are lent each by itself, so that the contract can say of each what
+    // is in it afterwards.
     pub fn issue<M: Memory>(
         &mut self,
         lines: &mut [Line],

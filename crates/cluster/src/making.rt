@@ -12,7 +12,7 @@ use protocol::lock::LockEntry;
 use protocol::refusal::Refusal;
 
 impl Cluster {
-    // A cluster whose processors have done nothing yet.
+    /// A cluster of a geometry whose processors have done nothing yet: every turn 0, nobody waits.
     pub fn at_rest(geometry: Geometry) -> Cluster
         ensures geometry { result.geometry ≡ geometry }
         ensures processors { result.processors ≡ all_resting }
@@ -23,13 +23,15 @@ impl Cluster {
         }
     }
 
+    /// The geometry that the cluster was made with.
     pub fn geometry(&self) -> Geometry
         ensures { result ≡ self.now.geometry }
     {
         self.geometry
     }
 
-    // The block that a processor waits for, if it waits.
+    /// The number of the block that a processor waits for, if it waits; a processor that the
+    /// geometry does not have never waits.
     pub fn waits_for(&self, processor: u8) -> Option<u32>
         ensures { result ≡ awaited self.now processor }
     {
@@ -39,7 +41,9 @@ impl Cluster {
         self.processors[processor as usize].waits_for
     }
 
-    // Makes the cluster and its tables new, in the caller's place. The tables are lent one by one, as to every call.
+    /// Makes the cluster and its tables new, in the caller's place, for a geometry: every line I,
+    /// every lock entry E, every turn 0, nobody waits. The memory is not lent: it may be any.
+    /// Refuses a table of wrong length for that geometry with 2, lines first; then nothing changes.
     pub fn make_new(
         &mut self,
         geometry: Geometry,
@@ -51,8 +55,10 @@ impl Cluster {
             result ≡ (making_rule geometry.measures before).answer }
         ensures board { (mem : Mem) →
             let before = board_of self.old lines.old locks.old mem in
-            board_of self.new lines.new locks.new mem ≡ (making_rule geometry.measures before).board }
-        ensures geometry { self.new.geometry ≡ (if is_ok result then geometry else self.old.geometry) }
+            let after = board_of self.new lines.new locks.new mem in
+            after ≡ (making_rule geometry.measures before).board }
+        ensures geometry { let made = is_ok result in
+            self.new.geometry ≡ (if made then geometry else self.old.geometry) }
     {
         let new = Cluster::at_rest(geometry);
         new.check_tables(lines, locks)?;

@@ -12,7 +12,7 @@ use protocol::answer::Supplier;
 use protocol::line::Line;
 use protocol::refusal::Refusal;
 
-// The block's words before the command, and who supplied them.
+/// The four words that a block had before the command, and who supplied them, if it was asked for.
 #[derive(Clone, Copy)]
 pub struct Supply {
     pub words: [u32; 4],
@@ -27,7 +27,8 @@ impl<'a> View<'a> {
         block: u32,
         copy: Option<u8>,
     ) -> Result<Supply, Refusal>
-        ensures { result ≡ supplied_by self.now.cluster.now.geometry.measures self.now.lines.now (M.model memory.now) block copy }
+        ensures { let measures = self.now.cluster.now.geometry.measures in
+            result ≡ supplied_by measures self.now.lines.now (M.model memory.now) block copy }
     {
         match copy {
             Some(q) => {
@@ -47,7 +48,8 @@ impl<'a> View<'a> {
 
     pub(crate) fn fetch<M: Memory>(&self, memory: &M, case: &Case) -> Result<Supply, Refusal>
         requires { IfSome case.now.place (λ i. i < length self.now.lines.now) }
-        ensures { result ≡ supplied self.now.cluster.now.geometry.measures self.now.lines.now (M.model memory.now) case.now }
+        ensures { let measures = self.now.cluster.now.geometry.measures in
+            result ≡ supplied measures self.now.lines.now (M.model memory.now) case.now }
     {
         if asks_for_block(case.effect.bus) {
             return self.supply_from(memory, case.block, case.copy);
