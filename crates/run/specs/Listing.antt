@@ -3,6 +3,7 @@ use Rattle.std.specs.Prelude.{ℕ, if◌then◌else◌, List, [], ◌∷◌, ◌
 use Rattle.protocol.specs.declared.measures.Measures.{Measures}
 use Rattle.protocol.specs.declared.refusal.Refusal.{Refusal}
 use Rattle.protocol.specs.declared.refusal.Refusal.TheVariants as refusal
+use Rattle.memory.specs.Meaning.{Mem}
 use Rattle.memory.specs.Words.{table_of}
 use Rattle.cluster.specs.Board.{new_board}
 use Rattle.text.specs.declared.step.Step.{Step}
@@ -21,11 +22,14 @@ unfoldable pub all_lines : Measures → List Record → Running → List ℕ
 all_lines m records s =
     lines_of (steps_of m records s) ++ summary_lines (summary_of m records (ran m records s))
 
+-- the run of records on a new board over a memory
+abbrev pub listing_on : Measures → Mem → List Record → List ℕ
+listing_on m mem records = all_lines m records (started records (new_board m mem))
+
 -- a new cluster with the trace's processors, over 1,024 words, all 0
 abbrev pub run_lines : Content → List ℕ
 run_lines trace =
-    let m = listing_measures trace.processors in
-    all_lines m trace.records (started trace.records (new_board m (table_of (replicate 1024 0))))
+    listing_on (listing_measures trace.processors) (table_of (replicate 1024 0)) trace.records
 
 abbrev listed : Result Content Refusal → List ℕ
 listed (Ok trace) = run_lines trace
