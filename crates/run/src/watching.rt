@@ -1,5 +1,5 @@
 // A run that is watched step by step.
-ghost use Rattle.std.specs.Prelude.{◌≡◌, IfOk, OnOk};
+ghost use Rattle.std.specs.Prelude.{◌≡◌, IfOk, OnOk, ⊤};
 ghost use Rattle.cluster.specs.Board.{board_of};
 ghost use Rattle.text.specs.declared.step.Step.{Step};
 ghost use Rattle.trace.specs.Traces.{records_of};
@@ -23,6 +23,18 @@ pub trait Watch {
     /// Is shown one step.
     fn see(&mut self, step: &Step) -> Result<(), AllocError>
         ensures { OnOk result (sees self.old step.now self.new) };
+}
+
+/// A watcher that makes nothing of what it is shown.
+#[derive(Drop)]
+pub struct Unwatched;
+
+impl Watch for Unwatched {
+    ghost sees = { λ before step after. ⊤ };
+
+    fn see(&mut self, _step: &Step) -> Result<(), AllocError> {
+        Ok(())
+    }
 }
 
 /// Runs a trace to its end and shows a watcher each step. A line or lock table of wrong length is not
