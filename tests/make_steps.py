@@ -1,5 +1,5 @@
 #!/usr/bin/env python3
-"""Makes crates/steps/stdin and crates/steps/stdout from crates/steps/steps.txt.
+"""Makes crates/test_steps/stdin and crates/test_steps/stdout from crates/test_steps/steps.txt.
 
     python3 tests/make_steps.py           write both files
     python3 tests/make_steps.py --check   exit 1 if they are not up to date
@@ -17,7 +17,7 @@ import sys
 sys.dont_write_bytecode = True
 import make_cases
 
-STEPS = pathlib.Path(__file__).resolve().parent.parent / "crates" / "steps"
+STEPS = pathlib.Path(__file__).resolve().parent.parent / "crates" / "test_steps"
 
 
 class Case(make_cases.Case):
