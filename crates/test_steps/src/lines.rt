@@ -115,6 +115,32 @@ pub fn put_step(
     }
 }
 
+// A refusal behind what was asked.
+fn put_refused(out: &mut Vec<u8>, refusal: Refusal) -> Result<(), AllocError> {
+    put_last(out, &decimal::<2>(refusal.number() as u64))
+}
+
+pub fn put_made_new(out: &mut Vec<u8>, answer: Result<(), Refusal>) -> Result<(), AllocError> {
+    put_field(out, b"new")?;
+    match answer {
+        Ok(()) => put_last(out, b"OK"),
+        Err(refusal) => put_refused(out, refusal),
+    }
+}
+
+pub fn put_holder(
+    out: &mut Vec<u8>,
+    address: u32,
+    answer: Result<Option<u8>, Refusal>,
+) -> Result<(), AllocError> {
+    put_field(out, b"holder")?;
+    put_field(out, &hexadecimal(address))?;
+    match answer {
+        Ok(holder) => put_last(out, &holder.map_or(*b"--", processor_name)),
+        Err(refusal) => put_refused(out, refusal),
+    }
+}
+
 // An entry of a table, which is shown in the table's line where it is in use.
 pub trait Shown {
     fn put(&self, out: &mut Vec<u8>, processor: u64) -> Result<(), AllocError>;

@@ -1,12 +1,14 @@
 #!/usr/bin/env python3
-"""Runs the listing program on the stored traces and compares what it writes.
+"""Runs the programs `listing` and `census` on the stored traces and compares what they write.
 
-    python3 tests/run_listings.py [BINARY]
+    python3 tests/run_programs.py                     both
+    python3 tests/run_programs.py PROGRAM [BINARY]    one
 
-BINARY is crates/listing/out/listing unless given; `rt run` in crates/listing makes it. The
-program gets each tests/listings/NAME.trace on standard input, once as a file and once through
-a pipe. Each time it must write the bytes of NAME.listing and nothing on standard error, and end
-with status 0. Prints failures only, and exits 1 if there is one. tests/make_listings.py makes the stored files.
+BINARY is crates/PROGRAM/out/PROGRAM unless given; `rt run` in crates/PROGRAM makes it. The
+program gets each tests/listings/NAME.trace on standard input, once as a file and once
+through a pipe. Each time it must write the bytes of NAME.PROGRAM and nothing on standard
+error, and end with status 0. Prints failures only, and exits 1 if there is one.
+tests/make_listings.py makes the stored files.
 """
 import pathlib
 import subprocess
@@ -14,7 +16,8 @@ import sys
 
 TESTS = pathlib.Path(__file__).resolve().parent
 FOLDER = TESTS / "listings"
-DEFAULT_BINARY = TESTS.parent / "crates" / "listing" / "out" / "listing"
+CRATES = TESTS.parent / "crates"
+PROGRAMS = ("listing", "census")
 
 
 def from_file(binary, path):
@@ -36,13 +39,13 @@ def first_difference(wanted, found):
     return "no difference"
 
 
-def faults(binary, path):
-    """What is wrong with the program's listing of this trace."""
-    listing = path.with_suffix(".listing")
-    if not listing.is_file():
-        yield "has no expected listing"
+def faults(program, binary, path):
+    """What is wrong with what the program writes for this trace."""
+    expected = path.with_suffix("." + program)
+    if not expected.is_file():
+        yield "has no expected output"
         return
-    wanted = listing.read_bytes()
+    wanted = expected.read_bytes()
     for way, run in (("file", from_file), ("pipe", from_pipe)):
         try:
             done = run(binary, path)
@@ -58,16 +61,20 @@ def faults(binary, path):
 
 
 def main():
-    if len(sys.argv) > 2:
+    asked, given = sys.argv[1:2] or PROGRAMS, sys.argv[2:]
+    if len(given) > 1 or not set(asked) <= set(PROGRAMS):
         sys.exit(__doc__)
-    binary = pathlib.Path(sys.argv[1] if len(sys.argv) == 2 else DEFAULT_BINARY).resolve()
     traces = sorted(FOLDER.glob("*.trace"))
-    found = [(path.name, fault) for path in traces for fault in faults(str(binary), path)]
-    if not traces:
-        found.append(("tests/listings", "has no traces"))
-    for name, fault in found:
-        print("%s: %s" % (name, fault))
-    return 1 if found else 0
+    failed = not traces
+    if failed:
+        print("tests/listings has no traces")
+    for program in asked:
+        binary = pathlib.Path(given[0]) if given else CRATES / program / "out" / program
+        for path in traces:
+            for fault in faults(program, str(binary.resolve()), path):
+                failed = True
+                print("%s, %s: %s" % (program, path.name, fault))
+    return 1 if failed else 0
 
 
 if __name__ == "__main__":

@@ -1,46 +1,30 @@
-// Plays short lists of commands, each on a new cluster, and shows every field of each answer and the tables at the
-// end. The input holds the cases one after another, as they stand in steps.txt.
+// Plays short lists of commands and of other calls, each on a new cluster, and shows every field of each answer and the
+// tables at the end. The input holds the cases one after another, as they stand in steps.txt.
 #![tactic(auto)]
 
 mod error;
 mod input;
 mod lines;
+mod play;
 
 use error::CaseError;
 use input::{Case, Cases, numbers};
-use lines::{put_step, put_table};
+use lines::put_table;
 use memory::dead::DeadList;
-use memory::memory::Memory;
 use memory::screen::Screen;
 use memory::word_table::WordTable;
 use parts::cases::put_heading;
 use parts::reading::read_all;
+use play::play;
 use protocol::geometry::Geometry;
 use run::board::Board;
 use std::alloc::{AllocError, Global};
 use std::io;
 use std::io::Write;
-use trace::record::{RECORD_SIZE, decode};
 
 const MOST_WORDS: usize = 1_024;
 
-fn put_steps<M: Memory>(
-    out: &mut Vec<u8>,
-    board: &mut Board,
-    memory: &mut M,
-    records: &[u8],
-) -> Result<(), CaseError> {
-    for bytes in records.chunks_exact(RECORD_SIZE) {
-        let request = decode(bytes).ok_or(CaseError::Malformed)?.request;
-        let answer = board
-            .cluster
-            .issue(&mut board.lines, &mut board.locks, memory, request);
-        put_step(out, request, &answer)?;
-    }
-    Ok(())
-}
-
-// Plays the case's records on a new cluster over a new memory.
+// Plays the case's steps on a new cluster over a new memory.
 fn put_case(heap: Global, out: &mut Vec<u8>, case: &Case) -> Result<(), CaseError> {
     let mut dead = DeadList::new();
     dead.fill(&numbers(heap, case.dead)?)?;
@@ -52,10 +36,7 @@ fn put_case(heap: Global, out: &mut Vec<u8>, case: &Case) -> Result<(), CaseErro
     let measures = case.setting.measures;
     let geometry = Geometry::new(measures)?;
     let mut board = Board::new(heap, geometry)?;
-    board
-        .cluster
-        .make_new(geometry, &mut board.lines, &mut board.locks)?;
-    put_steps(out, &mut board, &mut memory, case.records)?;
+    play(out, &mut board, &mut memory, case.steps)?;
     let lines_each = measures.columns.saturating_mul(measures.ways);
     put_table(out, b"states", &board.lines, lines_each)?;
     put_table(out, b"locks", &board.locks, measures.lock_entries)?;

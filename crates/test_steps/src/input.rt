@@ -1,11 +1,12 @@
-// A case as bytes: name, geometry, size of memory, dead blocks and records.
+// A case as bytes: name, geometry, size of memory, dead blocks and steps.
 ghost use Rattle.std.specs.Prelude.{length};
 ghost use Rattle.std.specs.Iterator.{at_most};
 
 use parts::cases::split_counted;
+use protocol::command::Request;
 use protocol::measures::{Costs, Measures};
 use std::alloc::{AllocError, Global};
-use trace::record::RECORD_SIZE;
+use trace::record::{RECORD_SIZE, decode};
 
 // What a case is played on.
 #[derive(Clone, Copy)]
@@ -43,7 +44,7 @@ pub struct Case<'a> {
     pub name: &'a [u8],
     pub setting: Setting,
     pub dead: &'a [u8],
-    pub records: &'a [u8],
+    pub steps: &'a [u8],
 }
 
 // The cases of an input, as far as they are whole. Each program has its own: they differ in all that `next` reads
@@ -60,14 +61,40 @@ impl<'a> Iterator for Cases<'a> {
         let (name, rest) = split_counted(self.0, 1)?;
         let (sizes, rest) = rest.split_first_chunk::<7>()?;
         let (dead, rest) = split_counted(rest, 2)?;
-        let (records, rest) = split_counted(rest, RECORD_SIZE as u8)?;
+        let (steps, rest) = split_counted(rest, RECORD_SIZE as u8)?;
         self.0 = rest;
         Some(Case {
             name,
             setting: Setting::from(*sizes),
             dead,
-            records,
+            steps,
         })
+    }
+}
+
+// A step of a case. It has the bytes of a record, with a code of its own where it is no command.
+#[derive(Clone, Copy)]
+pub enum Step {
+    Command(Request),
+    // The cluster and its tables are made new, over what they had.
+    MakeNew,
+    // Who holds a lock at the address.
+    Holder(u32),
+    // From here on the calls are lent so many of the lines and of the lock entries.
+    Lend(usize, usize),
+}
+
+// The step that sixteen bytes are, if they are one.
+pub fn step_of(bytes: &[u8]) -> Option<Step> {
+    let (&[_, [_, code, _, _], address, data], []) = bytes.as_chunks::<4>() else {
+        return None;
+    };
+    let (address, data) = (u32::from_le_bytes(address), u32::from_le_bytes(data));
+    match code {
+        b'N' => Some(Step::MakeNew),
+        b'H' => Some(Step::Holder(address)),
+        b'L' => Some(Step::Lend(address as usize, data as usize)),
+        _ => Some(Step::Command(decode(bytes)?.request)),
     }
 }
 
