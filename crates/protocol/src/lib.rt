@@ -1,4 +1,5 @@
-// The published protocol: states, commands, geometry, cache lines, lock entries, the directory and the state table.
+// The published protocol: states, commands, geometry, lines, lock entries, the directory and the
+// state table.
 #![tactic(auto)]
 
 pub mod acting;
