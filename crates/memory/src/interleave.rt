@@ -9,8 +9,7 @@ use crate::memory::{Denied, Memory};
 // Half of the most blocks that a memory has.
 const MOST_HALF: u32 = 524_288;
 
-/// Two memories as one: block k is block k / 2 of the first if k is even, of the second if k is
-/// odd.
+/// Two memories as one: block k is block k / 2 of the first, or of the second where k is odd.
 #[derive(Drop)]
 pub struct Interleave<P, Q> {
     first: P,

@@ -25,8 +25,9 @@ fn fits(length: usize) -> bool
     length % 4 == 0 && length <= MOST_WORDS
 }
 
-/// Tests a table of words. Refuses with 2 a length that is not a multiple of 4 or is over
-/// 4,194,304.
+/// Tests a table of words.
+///
+/// Refuses with 2 a table whose length is not a multiple of 4 or is over 4,194,304.
 pub fn check_table(words: &[u32]) -> Result<(), Refusal>
     ensures { result ≡ (if fit (length words.now) then Ok tt else Err Refusal.TableLength) }
 {

@@ -1,8 +1,7 @@
 -- The parts of a case in an input, and the line above what a case gives.
 use Rattle.std.specs.Prelude.{ℕ, ◌*◌, if◌then◌else◌, List, [], ◌∷◌, ◌++◌, length, take, drop, Option, Some, None, codes, nat_le}
 
--- the items behind a byte with their count, and what follows them; nothing where they are not all
--- there
+-- the items behind a byte with their count, and what follows; none where they are not all there
 abbrev pub counted : ℕ → List ℕ → Option (List ℕ × List ℕ)
 counted width [] = None
 counted width (count ∷ rest) =

@@ -1,5 +1,4 @@
-// The names of commands and states. Each fills two places, which an array says and a &str would
-// not.
+// The names of commands and states. Each fills two places, as an array says and a &str does not.
 ghost use Rattle.std.specs.Prelude.{◌≡◌};
 ghost use Rattle.text.specs.Names.{command_named, state_named};
 

@@ -8,8 +8,8 @@ use crate::trailer::TRAILER_SIZE;
 use crate::writer::Writer;
 use protocol::refusal::Refusal;
 
-/// Copies the trace in the input, without its note, to the start of the output: the answer is its
-/// length in bytes, 16 x records + 8.
+/// Copies the trace in the input, without its note, to the start of the output. The answer is the
+/// copy's length in bytes, which is 16 x records + 8.
 ///
 /// Refuses with 12 or 13 an input that is no trace, then with 14 an output that is too short; the
 /// output is then as it was.

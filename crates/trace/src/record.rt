@@ -60,8 +60,8 @@ fn data_of(command: Command) -> u32
 // No From, nor TryFrom for `decode`: `encode(next)` says more at a call, and an error could tell
 // only that there is no record.
 /// The sixteen bytes of a record: stamp (4), processor (1), code of the command (1), two zero
-/// bytes, address (4), data (4), each number lowest byte first. A command that writes no word has
-/// data 0.
+/// bytes, address (4), data (4). Each number stands lowest byte first. Data is the word that the
+/// command writes, 0 where it writes none.
 pub fn encode(put: Record) -> [u8; 16]
     ensures value { result ≡ encoded put }
     ensures back { decoded result ≡ Some put }

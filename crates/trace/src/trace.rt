@@ -12,8 +12,7 @@ use crate::trailer::Trailer;
 pub use crate::trailer::{MOST_RECORDS, TRAILER_SIZE, VERSION};
 use protocol::refusal::Refusal;
 
-// The bytes as they were lent, since the contracts speak of them; `whole` says that they are
-// records.
+// The bytes are as they were lent, since the contracts speak of them.
 /// A trace that was read: lawful records, at most 1,048,576, for 1 to 8 processors.
 #[derive(Clone, Copy)]
 pub struct Trace<'a> {
@@ -54,11 +53,11 @@ fn first_wrong(records: &[u8], processors: u8) -> Option<u32>
 }
 
 impl<'a> Trace<'a> {
-    /// The trace that the bytes are: a note of any length, the records, and the trailer in the last
-    /// 8 bytes.
+    /// The trace that the bytes are: a note of any length, the records of 16 bytes each, and the
+    /// trailer in the last 8 bytes.
     ///
-    /// Refuses with 12 fewer than 8 bytes or a wrong trailer, then with 13 and its index the first
-    /// wrong record.
+    /// Refuses with 12 fewer than 8 bytes or a wrong trailer, then with 13 and the index from 0 of
+    /// the first wrong record.
     pub fn read(bytes: &'a [u8]) -> Result<Trace<'a>, Refusal>
         ensures value { result_map_both (λ t. content_of t.processors t.records.now)
             (λ refusal. refusal) result ≡ trace_of bytes.now }

@@ -33,8 +33,7 @@ impl Writer {
 
     /// A writer of a new trace for these processors, which has put no records. Nothing is written.
     ///
-    /// Refuses with 12 processors that are not 1 to 8, then with 14 an output of under 8 bytes, the
-    /// trailer's.
+    /// Refuses with 12 processors that are not 1 to 8, then with 14 an output of under 8 bytes.
     pub fn open(output: &[u8], processors: u8) -> Result<Writer, Refusal>
         ensures answer { result_map_both (λ _. tt) (λ refusal. refusal) result
             ≡ open_answer output.now processors }
@@ -92,10 +91,10 @@ impl Writer {
 
     /// Writes the record's 16 bytes behind those put so far.
     ///
-    /// Refuses with 13, and the number of records put so far as index, a record whose processor is
-    /// not below the processors or whose stamp is below the last one's, or one that would be record
-    /// 1,048,577; then with 14 an output of under 16 x records + 24 bytes, those of the record and
-    /// the trailer included. A refused put changes nothing.
+    /// Refuses with 13 a record whose processor is not below the processors, whose stamp is below
+    /// the last one's, or that would be record 1,048,577; the index is the number of records put so
+    /// far. Then refuses with 14 an output of under 16 x records + 24 bytes, which are those put so
+    /// far, the new one and the trailer. A refused put changes nothing.
     pub fn put(&mut self, output: &mut [u8], next: Record) -> Result<(), Refusal>
         ensures answer { result
             ≡ (put_rule self.old.processors self.old.count self.old.stamp output.old next).answer }
@@ -115,8 +114,8 @@ impl Writer {
         Ok(())
     }
 
-    /// Writes the trailer behind the records and gives the trace's length in bytes, 16 x records +
-    /// 8.
+    /// Writes the trailer behind the records. The answer is the trace's length in bytes, which is
+    /// 16 x records + 8.
     ///
     /// Refuses with 14, and writes nothing, if the output lent now is shorter.
     pub fn close(self, output: &mut [u8]) -> Result<usize, Refusal>

@@ -23,8 +23,8 @@ fn admit_all(output: &[u8], processors: u8, records: &[Record]) -> Result<Writer
     Writer::open(output, processors)
 }
 
-/// Writes the trace of these records at the start of the output and gives its length in bytes, 16 x
-/// records + 8.
+/// Writes the trace of these records at the start of the output. The answer is its length in
+/// bytes, which is 16 x records + 8.
 ///
 /// Refuses as `Writer::open` does, with 12 or 14, then as `Writer::put` does at the first record
 /// that may not be put, with 13 or 14. All are tried before the first is written, so that a refused
