@@ -5,8 +5,8 @@ ghost use Rattle.protocol.specs.Acting.{acts_as, word_answered, words_left};
 use crate::command::{Action, Command};
 use crate::state::State;
 
-// RB on a block's last word purges. Elsewhere it takes the block from another cache where its own
-// misses.
+// RB on a block's last word purges. Elsewhere it takes the block from another cache, if one has it
+// and the own cache has not.
 fn read_before(address: u32, found: State, copy_elsewhere: bool) -> Action
     ensures { result ≡ acts_as Command.RB address found copy_elsewhere }
 {

@@ -49,8 +49,7 @@ pub struct LockHit {
     pub cycles: u32,
 }
 
-// No `Result`: WAIT is an answer, and the calls answer a `Result` of these with the refusals as its
-// errors.
+// No `Result`: WAIT is an answer. The calls answer a `Result` of these, with refusals as errors.
 /// What a command that is not refused answers.
 #[derive(Clone, Copy)]
 pub enum Answer {

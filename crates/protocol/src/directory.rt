@@ -114,8 +114,8 @@ impl<'a, E: Entry> Directory<'a, E> {
         &behind[..window.count.min(behind.len())]
     }
 
-    /// The place, in the whole table, of the window's first entry that is in use and has one of
-    /// these keys.
+    /// The place, in the whole table, of the first entry of the window that is in use and has one
+    /// of these keys.
     pub fn find(self, window: Window, keys: Keys) -> Option<usize>
         ensures value { result ≡ first_in (lies_in E.used E.label keys.low keys.high) window.from
             (window_of window.from window.count self.entry.entries.now) }
@@ -125,7 +125,7 @@ impl<'a, E: Entry> Directory<'a, E> {
         Some(window.from + place)
     }
 
-    /// The place, in the whole table, of the window's first entry that is not in use.
+    /// The place, in the whole table, of the first entry of the window that is not in use.
     pub fn free(self, window: Window) -> Option<usize>
         ensures value { result ≡ first_in (unused E.used) window.from
             (window_of window.from window.count self.entry.entries.now) }

@@ -5,8 +5,7 @@ use crate::measures::Measures;
 
 mod places;
 
-/// Measures within their limits. The limits are the struct's invariant, so that no call checks them
-/// again.
+/// Measures within their limits, which are the struct's invariant: no call checks them again.
 #[derive(Clone, Copy)]
 pub struct Geometry {
     measures: Measures,

@@ -21,8 +21,7 @@ pub struct Effect {
 /// A cell of the state table: none where the command is a machine check.
 pub type Cell = Option<Effect>;
 
-// Written out one by one: the table is a constant, and the checker supports no call in a constant's
-// value.
+// Written out one by one: the checker supports no call in a constant's value.
 const MC: Cell = None;
 
 const EM: Cell = Some(Effect {
