@@ -55,7 +55,7 @@ pub struct LockHit {
 pub enum Answer {
     /// The command is done.
     Done(Completion),
-    /// WAIT: the processor now waits for the block, and nothing else was done.
+    /// WAIT: another processor has a lock in the block, and the processor now waits for the block.
     Wait(LockHit),
 }
 
