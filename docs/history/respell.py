@@ -1,7 +1,8 @@
 #!/usr/bin/env python3
+# A record of a past step: this script served once, in the move that PORT.md tells of.
 """Brings the repository's own definitions, labels and lemmas to snake case, after the toolchain's port script has run.
 
-    python3 tools/respell.py [ROOT]
+    python3 docs/history/respell.py [ROOT]
 
 A dash stays where it joins the names of two functions. Names of Rust items, of goals and of the library stay as they are.
 """
