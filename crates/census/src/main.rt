@@ -1,5 +1,5 @@
-// Writes the census of the run of the trace on standard input. The bytes are made by the library; here
-// they are only read and written.
+// Writes the census of the run of the trace on standard input. The bytes are made by the library;
+// here they are only read and written.
 #![tactic(auto)]
 
 use counting::counting::count;

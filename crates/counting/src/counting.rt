@@ -72,9 +72,9 @@ fn count_run<M: Memory>(
     Ok(out)
 }
 
-/// The census of a trace's run on a new cluster of a geometry, over a memory: a row of EM, EC, SM, S and
-/// I for each processor, the lines in EM and SM, and what a drain then writes: blocks and bus cycles, or
-/// the number of the refusal that stopped it. Only want of memory is an error.
+/// The census of a trace's run on a new cluster of a geometry, over a memory: a row of EM, EC, SM,
+/// S and I for each processor, the lines in EM and SM, and what a drain then writes: blocks and bus
+/// cycles, or the number of the refusal that stopped it. Only want of memory is an error.
 pub fn count_trace<M: Memory>(
     heap: Global,
     geometry: Geometry,
@@ -118,9 +118,9 @@ fn count_refusal(heap: Global, refusal: Refusal) -> Result<Vec<u8>, AllocError>
     Ok(out)
 }
 
-/// What the census program writes for an input: the census of the run of the trace that it is, on the
-/// cluster and the memory of a listing, or the line of its refusal, 12 or 13. Only want of memory is an
-/// error.
+/// What the census program writes for an input: the census of the run of the trace that it is, on
+/// the cluster and the memory of a listing, or the line of its refusal, 12 or 13. Only want of
+/// memory is an error.
 pub fn count(heap: Global, input: &[u8]) -> Result<Vec<u8>, AllocError>
     ensures { IfOk result (λ out. out.items ≡ counting_of input.now) }
 {

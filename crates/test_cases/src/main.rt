@@ -1,5 +1,6 @@
-// Lists many short traces in one run. The input has, for each, a byte with the length of its name, the name, four
-// bytes with the trace's length, and the trace; tests/make_cases.py makes it from cases.txt.
+// Lists many short traces in one run. The input has, for each, a byte with the length of its name,
+// the name, four bytes with the trace's length, and the trace; tests/make_cases.py makes it from
+// cases.txt.
 #![tactic(auto)]
 
 ghost use Rattle.std.specs.Prelude.{length};
@@ -17,8 +18,9 @@ struct Case<'a> {
     trace: &'a [u8],
 }
 
-// The cases of an input, as far as they are whole. Each program has its own: they differ in all that `next` reads
-// behind the name, and one generic type would need a trait and a marker to say the rest.
+// The cases of an input, as far as they are whole. Each program has its own: they differ in all
+// that `next` reads behind the name, and one generic type would need a trait and a marker to say
+// the rest.
 #[derive(Drop)]
 struct Cases<'a>(&'a [u8]);
 

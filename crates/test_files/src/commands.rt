@@ -2,7 +2,7 @@
 use protocol::command::Command;
 use text::names::command_name;
 
-// The command with a name; one that writes a word has this one.
+/// The command with a name; one that writes a word has this one.
 pub fn command_named(name: [u8; 2], word: u32) -> Option<Command> {
     [
         Command::R,

@@ -7,13 +7,14 @@ use parts::cases::split_counted;
 use protocol::command::Request;
 use trace::record::Record;
 
-// The size of a record that is to be put. Its command goes by name, so that it is no record of a trace.
+/// The size of a record that is to be put. Its command goes by name, so that it is no record of a
+/// trace.
 pub const PUT_SIZE: usize = 15;
 
 const HEAD_SIZE: usize = 8;
 
-// A trace to write: the room of its output, how much of the output is lent to close where it is called for itself, and
-// the records to put.
+/// A trace to write: the room of its output, how much of the output is lent to close where it is
+/// called for itself, and the records to put.
 #[derive(Clone, Copy)]
 pub struct Session<'a> {
     pub processors: u8,
@@ -22,7 +23,7 @@ pub struct Session<'a> {
     pub records: &'a [u8],
 }
 
-// A trace to copy, and the room of the output.
+/// A trace to copy, and the room of the output.
 #[derive(Clone, Copy)]
 pub struct Source<'a> {
     pub trace: &'a [u8],
@@ -30,6 +31,7 @@ pub struct Source<'a> {
 }
 
 #[derive(Clone, Copy)]
+/// What a case does.
 pub enum Task<'a> {
     Read(&'a [u8]),
     Write(Session<'a>),
@@ -38,6 +40,7 @@ pub enum Task<'a> {
 }
 
 #[derive(Clone, Copy)]
+/// A case: its name, and what it does.
 pub struct Case<'a> {
     pub name: &'a [u8],
     pub task: Task<'a>,
@@ -114,8 +117,9 @@ fn task_of(head: Head, body: &[u8]) -> Task<'_> {
     }
 }
 
-// The cases of an input, as far as they are whole. Each program has its own: they differ in all that `next` reads
-// behind the name, and one generic type would need a trait and a marker to say the rest.
+/// The cases of an input, as far as they are whole. Each program has its own: they differ in all
+/// that `next` reads behind the name, and one generic type would need a trait and a marker to say
+/// the rest.
 #[derive(Drop)]
 pub struct Cases<'a>(pub &'a [u8]);
 
@@ -137,7 +141,7 @@ impl<'a> Iterator for Cases<'a> {
     }
 }
 
-// The record that is to be put. A function, as `decode` is.
+/// The record that is to be put. A function, as `decode` is.
 pub fn record_of(bytes: &[u8]) -> Option<Record> {
     let (stamp, rest) = bytes.split_first_chunk::<4>()?;
     let (processor, rest) = rest.split_first()?;

@@ -5,6 +5,7 @@ use std::io::Write;
 use text::names::command_name;
 use trace::record::Record;
 
+/// The line of a record.
 pub fn show_record(out: &mut Vec<u8>, record: &Record) -> io::Result<()> {
     let stamp = record.stamp;
     let processor = record.request.processor;
@@ -15,6 +16,7 @@ pub fn show_record(out: &mut Vec<u8>, record: &Record) -> io::Result<()> {
     writeln!(out, " {address:08X} {word:08X}")
 }
 
+/// A refusal by its number, and the index where it has one.
 pub fn show_refusal(out: &mut Vec<u8>, refusal: Refusal) -> io::Result<()> {
     let number = refusal.number();
     match refusal {
@@ -23,13 +25,13 @@ pub fn show_refusal(out: &mut Vec<u8>, refusal: Refusal) -> io::Result<()> {
     }
 }
 
-// The name of a refused call, and the refusal.
+/// The name of a refused call, and the refusal.
 pub fn show_refused(out: &mut Vec<u8>, call: &str, refusal: Refusal) -> io::Result<()> {
     write!(out, "{call} ")?;
     show_refusal(out, refusal)
 }
 
-// What a put answers.
+/// What a put answers.
 pub fn show_put(out: &mut Vec<u8>, answer: Result<(), Refusal>) -> io::Result<()> {
     match answer {
         Ok(()) => writeln!(out, "put OK"),
@@ -37,7 +39,7 @@ pub fn show_put(out: &mut Vec<u8>, answer: Result<(), Refusal>) -> io::Result<()
     }
 }
 
-// What a close answers.
+/// What a close answers.
 pub fn show_close(out: &mut Vec<u8>, answer: Result<usize, Refusal>) -> io::Result<()> {
     match answer {
         Ok(length) => writeln!(out, "closed {length}"),
@@ -45,7 +47,7 @@ pub fn show_close(out: &mut Vec<u8>, answer: Result<usize, Refusal>) -> io::Resu
     }
 }
 
-// What a copy answers.
+/// What a copy answers.
 pub fn show_copy(out: &mut Vec<u8>, answer: Result<usize, Refusal>) -> io::Result<()> {
     match answer {
         Ok(length) => writeln!(out, "copied {length}"),
@@ -53,7 +55,7 @@ pub fn show_copy(out: &mut Vec<u8>, answer: Result<usize, Refusal>) -> io::Resul
     }
 }
 
-// What writing all records in one call answers.
+/// What writing all records in one call answers.
 pub fn show_written(out: &mut Vec<u8>, answer: Result<usize, Refusal>) -> io::Result<()> {
     match answer {
         Ok(length) => writeln!(out, "written {length}"),
@@ -72,7 +74,7 @@ fn show_row(out: &mut Vec<u8>, row: &[u8]) -> io::Result<()> {
     out.write_all(b"\n")
 }
 
-// All bytes of an output, sixteen to a line.
+/// All bytes of an output, sixteen to a line.
 pub fn show_output(out: &mut Vec<u8>, output: &[u8]) -> io::Result<()> {
     for row in output.chunks(16) {
         show_row(out, row)?;

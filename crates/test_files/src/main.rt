@@ -1,5 +1,5 @@
-// Reads, writes and copies short traces, and shows what each call answers and what it leaves in the output. The input
-// holds the cases one after another, as they stand in files.txt.
+// Reads, writes and copies short traces, and shows what each call answers and what it leaves in the
+// output. The input holds the cases one after another, as they stand in files.txt.
 #![tactic(auto)]
 
 mod commands;

@@ -3,7 +3,7 @@
 
 use memory::memory::Memory;
 
-// The four words of a block, or none where the memory denies them.
+/// The four words of a block, or none where the memory denies them.
 pub fn seen<M: Memory>(memory: &M, block: u32) -> Option<[u32; 4]> {
     memory.read(block).ok()
 }

@@ -1,7 +1,8 @@
-// Why a case is not played to its end.
+// Errors of a case.
 use protocol::refusal::Refusal;
 use std::alloc::AllocError;
 
+/// Why a case is not played to its end.
 #[derive(Clone, Copy)]
 pub enum CaseError {
     Malformed,

@@ -8,7 +8,7 @@ use protocol::measures::{Costs, Measures};
 use std::alloc::{AllocError, Global};
 use trace::record::{RECORD_SIZE, decode};
 
-// What a case is played on.
+/// What a case is played on.
 #[derive(Clone, Copy)]
 pub struct Setting {
     pub measures: Measures,
@@ -40,6 +40,7 @@ impl From<[u8; 7]> for Setting {
 }
 
 #[derive(Clone, Copy)]
+/// A case: its name, what it is played on, and its steps.
 pub struct Case<'a> {
     pub name: &'a [u8],
     pub setting: Setting,
@@ -47,8 +48,9 @@ pub struct Case<'a> {
     pub steps: &'a [u8],
 }
 
-// The cases of an input, as far as they are whole. Each program has its own: they differ in all that `next` reads
-// behind the name, and one generic type would need a trait and a marker to say the rest.
+/// The cases of an input, as far as they are whole. Each program has its own: they differ in all
+/// that `next` reads behind the name, and one generic type would need a trait and a marker to say
+/// the rest.
 #[derive(Drop)]
 pub struct Cases<'a>(pub &'a [u8]);
 
@@ -72,7 +74,7 @@ impl<'a> Iterator for Cases<'a> {
     }
 }
 
-// A step of a case. It has the bytes of a record, with a code of its own where it is no command.
+/// A step of a case. It has the bytes of a record, with a code of its own where it is no command.
 #[derive(Clone, Copy)]
 pub enum Step {
     Command(Request),
@@ -84,7 +86,7 @@ pub enum Step {
     Lend(usize, usize),
 }
 
-// The step that sixteen bytes are, if they are one.
+/// The step that sixteen bytes are, if they are one.
 pub fn step_of(bytes: &[u8]) -> Option<Step> {
     let (&[_, [_, code, _, _], address, data], []) = bytes.as_chunks::<4>() else {
         return None;
@@ -98,7 +100,7 @@ pub fn step_of(bytes: &[u8]) -> Option<Step> {
     }
 }
 
-// The numbers of two bytes each.
+/// The numbers of two bytes each.
 pub fn numbers(heap: Global, bytes: &[u8]) -> Result<Vec<u32>, AllocError> {
     let (pairs, _) = bytes.as_chunks::<2>();
     pairs

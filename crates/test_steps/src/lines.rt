@@ -1,5 +1,5 @@
-// The lines that show answers and tables, every field of them, put together for the reason that stands at
-// `text::lines::put_field`.
+// The lines that show answers and tables, every field of them, put together for the reason that
+// stands at `text::lines::put_field`.
 use protocol::answer::{Answer, Completion, LockHit, Supplier};
 use protocol::command::{BusCommand, Request};
 use protocol::line::Line;
@@ -100,6 +100,7 @@ fn put_refusal(out: &mut Vec<u8>, refusal: Refusal) -> Result<(), AllocError> {
     put_last(out, b"")
 }
 
+/// The line of a step: the command and what it was answered, field by field.
 pub fn put_step(
     out: &mut Vec<u8>,
     request: Request,
@@ -120,6 +121,7 @@ fn put_refused(out: &mut Vec<u8>, refusal: Refusal) -> Result<(), AllocError> {
     put_last(out, &decimal::<2>(refusal.number() as u64))
 }
 
+/// The line of making the cluster new.
 pub fn put_made_new(out: &mut Vec<u8>, answer: Result<(), Refusal>) -> Result<(), AllocError> {
     put_field(out, b"new")?;
     match answer {
@@ -128,6 +130,7 @@ pub fn put_made_new(out: &mut Vec<u8>, answer: Result<(), Refusal>) -> Result<()
     }
 }
 
+/// The line of a lock question.
 pub fn put_holder(
     out: &mut Vec<u8>,
     address: u32,
@@ -141,7 +144,7 @@ pub fn put_holder(
     }
 }
 
-// An entry of a table, which is shown in the table's line where it is in use.
+/// An entry of a table, which is shown in the table's line where it is in use.
 pub trait Shown {
     fn put(&self, out: &mut Vec<u8>, processor: u64) -> Result<(), AllocError>;
 }
@@ -187,7 +190,7 @@ fn owner(index: usize, each: usize) -> u64 {
     index.checked_div(each).unwrap_or(0) as u64
 }
 
-// The line of a table: the entries in use, where each processor has `each` entries.
+/// The line of a table: the entries in use, where each processor has `each` entries.
 pub fn put_table<T: Shown>(
     out: &mut Vec<u8>,
     title: &[u8],

@@ -1,5 +1,6 @@
-// Plays short lists of commands and of other calls, each on a new cluster, and shows every field of each answer and the
-// tables at the end. The input holds the cases one after another, as they stand in steps.txt.
+// Plays short lists of commands and of other calls, each on a new cluster, and shows every field of
+// each answer and the tables at the end. The input holds the cases one after another, as they stand
+// in steps.txt.
 #![tactic(auto)]
 
 mod error;

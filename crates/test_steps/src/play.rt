@@ -47,7 +47,7 @@ fn take<M: Memory>(
     Ok(lent)
 }
 
-// Takes all steps of a case.
+/// Takes all steps of a case.
 pub fn play<M: Memory>(
     out: &mut Vec<u8>,
     board: &mut Board,

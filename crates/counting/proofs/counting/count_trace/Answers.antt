@@ -2,9 +2,9 @@ use Rattle.std.proofs.Common.{◌≡◌, IfOk, vec_items, length, sym, ap, ◌�
 use Rattle.std.proofs.lemmas.List.{length-replicate}
 use Rattle.protocol.specs.Places.{line_count}
 use Rattle.protocol.specs.Lines.{blank_line}
-use Rattle.cluster.specs.Board.{board_of, new_board}
 use Rattle.memory.specs.Meaning.{Mem}
 use Rattle.trace.specs.Traces.{records_of}
+use Rattle.run.proofs.Laws.{new_lent}
 use Rattle.run.specs.Running.{end_of}
 use Rattle.counting.specs.Report.{report_of}
 use Rattle.counting.proofs.counting.count_trace.Goals as goal
@@ -22,12 +22,8 @@ pub returns-clause-counting : goal.returns-clause-counting
 returns-clause-counting g c =
     let recs = records_of c.args.trace.records.now in
     let mem = g.M.Memory.model c.args.memory.now in
-    let board = c.in_ok-board.board in
     let new = c.in_ok-board.ensures.new in
-    let lent : board_of board.cluster c.deref_mut.result.now c.deref_mut-2.result.now mem
-    ≡ board_of board.cluster board.lines.items board.locks.items mem
-    = (λ k. board_of board.cluster (c.deref_mut.ensures.value k) (c.deref_mut-2.ensures.value k) mem) in
-    let made = lent ∙ new.board mem in
+    let made = new_lent new c.deref_mut.ensures.value c.deref_mut-2.ensures.value mem in
     let same = ap (λ x. x.measures) new.geometry in
     subst (λ report. IfOk c.count_run.result (λ out. vec_items out ≡ report))
     (λ k. report_of (same k) (end_of (same k) (made k) recs).board) c.count_run.ensures.counting

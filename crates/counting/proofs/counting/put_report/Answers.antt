@@ -25,11 +25,13 @@ returns-clause-report g c locks =
     let shown = rows_from 0 (take n rows) in
     let modified = modified_line rows in
     let drained = drained_line c.drain.result in
-    let joined : vec_items c.put_modified.new.out ++ drained ≡ start ++ (title ++ (shown ++ (modified ++ drained)))
+    let joined : vec_items c.put_modified.new.out ++ drained
+    ≡ start ++ (title ++ (shown ++ (modified ++ drained)))
     = behind start title (shown ++ (modified ++ drained)) c.in_ok-put_last.ensures
     (behind (vec_items c.put_last.new.out) shown (modified ++ drained) c.in_ok-put_rows.ensures
     (behind (vec_items c.put_rows.new.out) modified drained c.in_ok-put_modified.ensures refl)) in
-    let many : n ≡ m.processors = c.processors.ensures.value ∙ ap (λ x. x.measures.processors) c.geometry.ensures in
+    let many : n ≡ m.processors =
+    c.processors.ensures.value ∙ ap (λ x. x.measures.processors) c.geometry.ensures in
     let counted : rows ≡ census_of m b.lines
     = c.census.ensures.rows locks mem ∙ counted_rows m b _ c.requires in
     let written = c.drain.ensures.answer locks in

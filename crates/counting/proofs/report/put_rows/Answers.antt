@@ -14,7 +14,9 @@ loop-p-preserved c =
     let low : p < length rows = search rules in
     let added : vec_items c.put_row.new.out ≡ vec_items c.loop-p.out ++ row_line p row = search rules in
     let shown : rows_from 0 (take (p + 1) rows) ≡ rows_from 0 (take p rows) ++ row_line p row
-    = ap (λ q. rows_from 0 (take q rows)) (add-one p) ∙ ap (rows_from 0) (take-suc rows p [] low) ∙ rows_more 0 (take p rows) row
-    ∙ ap (λ q. rows_from 0 (take p rows) ++ row_line q row) (zero-add (length (take p rows)) ∙ length-take-le p rows (omega (arith, low))) in
+    = ap (λ q. rows_from 0 (take q rows)) (add-one p) ∙ ap (rows_from 0) (take-suc rows p [] low)
+    ∙ rows_more 0 (take p rows) row
+    ∙ ap (λ q. rows_from 0 (take p rows) ++ row_line q row)
+    (zero-add (length (take p rows)) ∙ length-take-le p rows (omega (arith, low))) in
     added ∙ ap (λ l. l ++ row_line p row) c.loop-p.invariant
     ∙ append_assoc start (rows_from 0 (take p rows)) (row_line p row) ∙ ap (λ l. start ++ l) (sym shown)
