@@ -1,5 +1,6 @@
 -- The lines of a text, and the fields of a line.
 use Rattle.std.specs.Prelude.{ℕ, ◌+◌, Bool, true, false, if◌then◌else◌, ◌||◌, List, [], ◌∷◌, ◌++◌, ◌==◌, filter}
+use Rattle.text.specs.Lines.{field, last_field}
 use Rattle.trace_text.specs.Parts.{parts}
 
 -- byte 10 ends a line; behind the last one, bytes that it does not end are a line too
@@ -20,7 +21,7 @@ is_comment (byte ∷ bytes) = byte == 35
 
 abbrev pub no_fields : List (List ℕ) → Bool
 no_fields [] = true
-no_fields (field ∷ fields) = false
+no_fields (first ∷ later) = false
 
 -- a comment begins with #; a blank line has no field
 abbrev pub is_passed_over : List ℕ → Bool
@@ -37,12 +38,8 @@ written number (line ∷ lines) =
     if is_passed_over line then written (number + 1) lines
     else record { number = number; text = line } ∷ written (number + 1) lines
 
--- fields with one space between them
-abbrev pub spaced : List (List ℕ) → List ℕ
-spaced [] = []
-spaced (field ∷ []) = field
-spaced (field ∷ (next ∷ later)) = field ++ (32 ∷ spaced (next ∷ later))
-
--- the line that is written for some fields
+-- the line that is written for some fields: one space between them, and byte 10 behind the last
 abbrev pub line_of : List (List ℕ) → List ℕ
-line_of fields = spaced fields ++ (10 ∷ [])
+line_of [] = 10 ∷ []
+line_of (text ∷ []) = last_field text
+line_of (text ∷ (next ∷ later)) = field text ++ line_of (next ∷ later)

@@ -7,7 +7,7 @@ use crate::fields::Fields;
 use crate::numbers::{read_decimal, without_zeros};
 use std::alloc::AllocError;
 use text::digits::decimal;
-use text::lines::{put_field, put_last};
+use text::lines::put_last;
 
 fn processors_in(field: &[u8]) -> Option<u8>
     ensures { result ≡ processors_in field.now }
@@ -48,9 +48,6 @@ pub(crate) fn header_in(line: &[u8]) -> Option<u8>
 pub(crate) fn put_header(out: &mut Vec<u8>, processors: u8) -> Result<(), AllocError>
     ensures { OnOk result (out.new.items ≡ out.old.items ++ line_of (header_fields processors)) }
 {
-    put_field(out, b"trace")?;
-    put_field(out, b"version")?;
-    put_field(out, b"1")?;
-    put_field(out, b"processors")?;
+    out.extend_from_slice(b"trace version 1 processors ")?;
     put_last(out, without_zeros(&decimal::<10>(processors as u64)))
 }

@@ -25,6 +25,6 @@ pub(crate) fn split_part(bytes: &[u8], separator: u8) -> Option<(&[u8], &[u8])>
         return None;
     }
     let place = place_of(bytes, separator);
-    let (part, rest) = bytes.split_at(place);
-    Some((part, rest.get(1..).unwrap_or_default()))
+    let behind = (place + 1).min(bytes.len());
+    Some((&bytes[..place], &bytes[behind..]))
 }

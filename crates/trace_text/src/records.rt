@@ -63,11 +63,11 @@ fn put_name(out: &mut Vec<u8>, command: Command) -> Result<(), AllocError>
 }
 
 /// Puts the line of a record behind some text.
-pub(crate) fn put_record(out: &mut Vec<u8>, record: &Record) -> Result<(), AllocError>
-    ensures { OnOk result (out.new.items ≡ out.old.items ++ record_line record.now) }
+pub(crate) fn put_record(out: &mut Vec<u8>, next: &Record) -> Result<(), AllocError>
+    ensures { OnOk result (out.new.items ≡ out.old.items ++ record_line next.now) }
 {
-    let request = record.request;
-    put_field(out, without_zeros(&decimal::<10>(record.stamp as u64)))?;
+    let request = next.request;
+    put_field(out, without_zeros(&decimal::<10>(next.stamp as u64)))?;
     put_field(out, without_zeros(&decimal::<10>(request.processor as u64)))?;
     put_name(out, request.command)?;
     match request.command.written() {
