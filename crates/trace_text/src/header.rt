@@ -49,5 +49,6 @@ pub(crate) fn put_header(out: &mut Vec<u8>, processors: u8) -> Result<(), AllocE
     ensures { OnOk result (out.new.items ≡ out.old.items ++ line_of (header_fields processors)) }
 {
     out.extend_from_slice(b"trace version 1 processors ")?;
-    put_last(out, without_zeros(&decimal::<10>(processors as u64)))
+    put_last(out, without_zeros(&decimal::<10>(processors as u64)))?;
+    Ok(())
 }
