@@ -1,2 +1,5 @@
 pub mod Splits
 pub mod Values
+pub mod Words
+pub mod Digits
+pub mod Law

@@ -4,3 +4,4 @@ pub mod Commands
 pub mod Lines
 pub mod Texts
 pub mod Reading
+pub mod Ranges

@@ -42,7 +42,7 @@ impl<'a> Lines<'a> {
     pub(crate) fn next_written(&mut self) -> Option<Line<'a>>
         ensures line { MatchOption result
             ((written self.old.number (lines_of self.old.rest.now) ≡ [])
-             × (self.new.number ≡ self.old.number + length (lines_of self.old.rest.now)))
+            × (self.new.number ≡ self.old.number + length (lines_of self.old.rest.now)))
             (λ l. written self.old.number (lines_of self.old.rest.now) ≡ record { number = l.number; text = l.text.now } ∷ written self.new.number (lines_of self.new.rest.now)) }
         ensures shorter { OnSome result (length self.new.rest.now < length self.old.rest.now) }
     {

@@ -31,7 +31,11 @@ fn next_record(line: &Line, processors: u8, last: u32, count: usize) -> Option<R
 }
 
 // The records that the lines left are, or the number of the first line that is none.
-fn read_records(heap: Global, mut lines: Lines, processors: u8) -> Result<Result<Vec<Record>, usize>, AllocError>
+fn read_records(
+    heap: Global,
+    mut lines: Lines,
+    processors: u8,
+) -> Result<Result<Vec<Record>, usize>, AllocError>
     ensures { IfOk result (λ read. result_map_both (λ v. v.items) (λ n. n) read
         ≡ records_in processors 0 0 (written lines.entry.number (lines_of lines.entry.rest.now))) }
 {

@@ -4,6 +4,7 @@ ghost use Rattle.trace_text.specs.Texts.{stamp_from, processor_below, record_in,
 ghost use Rattle.text.specs.Lines.{field};
 ghost use Rattle.trace_text.specs.Commands.{name_of};
 ghost use Rattle.trace_text.specs.Lines.{fields_of};
+ghost use Rattle.trace_text.specs.Ranges.{InRange};
 
 use crate::commands::command_of;
 use crate::fields::Fields;
@@ -64,7 +65,8 @@ fn put_name(out: &mut Vec<u8>, command: Command) -> Result<(), AllocError>
 
 /// Puts the line of a record behind some text.
 pub(crate) fn put_record(out: &mut Vec<u8>, next: &Record) -> Result<(), AllocError>
-    ensures { OnOk result (out.new.items ≡ out.old.items ++ record_line next.now) }
+    ensures line { OnOk result (out.new.items ≡ out.old.items ++ record_line next.now) }
+    ensures in_range { OnOk result (InRange next.now) }
 {
     let request = next.request;
     put_field(out, without_zeros(&decimal::<10>(next.stamp as u64)))?;

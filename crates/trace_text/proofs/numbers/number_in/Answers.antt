@@ -1,4 +1,4 @@
-use Rattle.std.proofs.Common.{◌≡◌, ◌*◌, ◌+◌, ◌<◌, ◌≤◌, length, get_or, Some, sym, ◌∙◌, arith, rules}
+use Rattle.std.proofs.Common.{◌≡◌, ◌*◌, ◌+◌, ◌≤◌, get_or, Some, sym, ◌∙◌, arith, rules}
 use Rattle.trace_text.specs.Numbers.{digit_in}
 use Rattle.trace_text.proofs.Values.{digit_read, overflowed, whole_number}
 use Rattle.trace_text.proofs.numbers.number_in.Goals as goal

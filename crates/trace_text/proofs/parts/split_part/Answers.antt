@@ -1,6 +1,6 @@
-use Rattle.std.proofs.Common.{◌≡◌, ◌∷◌, ◌+◌, ◌-◌, ◌<◌, length, take, drop, sym, refl, ap, ◌∙◌, arith, rules}
+use Rattle.std.proofs.Common.{◌≡◌, ◌∷◌, ◌+◌, ◌-◌, length, take, drop, sym, ap, ◌∙◌, rules}
 use Rattle.std.proofs.lemmas.List.{drop_min, take_rest}
-use Rattle.trace_text.specs.Parts.{parts, place_of}
+use Rattle.trace_text.specs.Parts.{parts}
 use Rattle.trace_text.proofs.Splits.{parts_split}
 use Rattle.trace_text.proofs.parts.split_part.Goals as goal
 
