@@ -5,3 +5,4 @@ pub mod Lines
 pub mod Texts
 pub mod Reading
 pub mod Ranges
+pub mod Left

@@ -11,7 +11,8 @@ digit_in base byte = if nat_lt (digit_value byte) base then Some (digit_value by
 -- the number that digits make, behind those that make n
 abbrev pub value_from : ℕ → ℕ → List ℕ → Option ℕ
 value_from base n [] = Some n
-value_from base n (byte ∷ digits) = when_some (digit_in base byte) (λ d. value_from base (n * base + d) digits) None
+value_from base n (byte ∷ digits) =
+    when_some (digit_in base byte) (λ d. value_from base (n * base + d) digits) None
 
 -- the number, if it is below 2^32
 abbrev pub fitting : Option ℕ → Option ℕ
@@ -20,7 +21,8 @@ fitting o = when_some o (λ n. if nat_lt n 4294967296 then Some n else None) Non
 -- the number that 1 to so many digits are, if it is below 2^32
 abbrev pub number_in : ℕ → ℕ → List ℕ → Option ℕ
 number_in base most digits =
-    if nat_le 1 (length digits) && nat_le (length digits) most then fitting (value_from base 0 digits) else None
+    if nat_le 1 (length digits) && nat_le (length digits) most then fitting (value_from base 0 digits)
+    else None
 
 abbrev pub hexadecimal_of : List ℕ → Option ℕ
 hexadecimal_of digits = number_in 16 8 digits

@@ -59,31 +59,38 @@ abbrev pub is_one : Option ℕ → Bool
 is_one None = false
 is_one (Some n) = n == 1
 
--- the processors of a header
+-- whether these are the words of a header, and its version is 1
+abbrev pub is_header : List ℕ → List ℕ → List ℕ → List ℕ → Bool
+is_header trace version number label =
+    bytes_eq trace (codes "trace") && bytes_eq version (codes "version") && is_one (decimal_of number)
+    && bytes_eq label (codes "processors")
+
+-- the processors of the header that some fields are
 abbrev pub header_in : List (List ℕ) → Option ℕ
-header_in (a ∷ (b ∷ (version ∷ (d ∷ (processors ∷ []))))) =
-    if bytes_eq a (codes "trace") && bytes_eq b (codes "version") && is_one (decimal_of version) && bytes_eq d (codes "processors")
-    then processors_in processors else None
+header_in (trace ∷ (version ∷ (number ∷ (label ∷ (processors ∷ []))))) =
+    if is_header trace version number label then processors_in processors else None
 header_in other = None
 
--- the records that some lines are, behind so many records of which the last has this stamp; or the number of the first
--- line that is none
+-- the record that some fields are behind so many records, of which the last has this stamp
+abbrev pub next_record : ℕ → ℕ → ℕ → List (List ℕ) → Option Record
+next_record processors last count fields = if nat_lt count 1048576 then record_in processors last fields else None
+
+-- the records that some lines are behind so many records, or the number of the first line that is none
 abbrev pub records_in : ℕ → ℕ → ℕ → List Numbered → Result (List Record) ℕ
 records_in processors last count [] = Ok []
 records_in processors last count (line ∷ later) =
-    when_some (if nat_lt count 1048576 then record_in processors last (fields_of line.text) else None)
+    when_some (next_record processors last count (fields_of line.text))
     (λ r. result_map_both (λ rs. r ∷ rs) (λ n. n) (records_in processors r.stamp (count + 1) later))
     (Err line.number)
 
--- the trace that some lines are; without a header the line with this number is wrong
+-- the trace that some lines are, of which the header is the first; where there is none, this line is wrong
 abbrev pub trace_in : ℕ → List Numbered → Result Content ℕ
-trace_in end [] = Err end
-trace_in end (line ∷ later) =
+trace_in behind [] = Err behind
+trace_in behind (line ∷ later) =
     when_some (header_in (fields_of line.text))
     (λ p. result_map_both (λ rs. record { processors = p; records = rs }) (λ n. n) (records_in p 0 0 later))
     (Err line.number)
 
--- the trace that a text is, or the number of its first wrong line, counted from 1; without a header that is the line
--- behind the last
+-- the trace that a text is, or the number of its first wrong line, counted from 1
 abbrev pub parsed : List ℕ → Result Content ℕ
 parsed text = let lines = lines_of text in trace_in (1 + length lines) (written 1 lines)

@@ -1,5 +1,5 @@
 // The fields of a line: the bytes between spaces.
-ghost use Rattle.std.specs.Prelude.{◌≡◌, [], ◌∷◌, MatchOption};
+ghost use Rattle.std.specs.Prelude.{◌≡◌, [], ◌∷◌, MatchOption, IfNone};
 ghost use Rattle.trace_text.specs.Lines.{fields_of, is_passed_over};
 
 use crate::parts::split_part;
@@ -13,8 +13,9 @@ pub(crate) struct Fields<'a> {
 impl<'a> Fields<'a> {
     /// The next field, if there is one.
     pub(crate) fn next_field(&mut self) -> Option<&'a [u8]>
-        ensures { MatchOption result ((fields_of self.old.rest.now ≡ []) × (fields_of self.new.rest.now ≡ []))
+        ensures field { MatchOption result (fields_of self.old.rest.now ≡ [])
             (λ f. fields_of self.old.rest.now ≡ f.now ∷ fields_of self.new.rest.now) }
+        ensures ended { IfNone result (fields_of self.new.rest.now ≡ []) }
     {
         while let Some((part, rest)) = split_part(self.rest, b' ') {
             self.rest = rest;

@@ -12,12 +12,8 @@ use text::lines::put_last;
 fn processors_in(field: &[u8]) -> Option<u8>
     ensures { result ≡ processors_in field.now }
 {
-    let processors = read_decimal(field)?;
-    if 1 <= processors && processors <= 8 {
-        Some(processors as u8)
-    } else {
-        None
-    }
+    let processors = u8::try_from(read_decimal(field)?).ok()?;
+    (1..=8).contains(&processors).then_some(processors)
 }
 
 /// The processors of the header that a line is.

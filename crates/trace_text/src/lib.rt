@@ -1,14 +1,14 @@
 // The text form of a trace: written from a trace, and read into processors and records.
 #![tactic(auto)]
 
-pub mod commands;
-pub mod fields;
-pub mod header;
-pub mod lines;
-pub mod numbers;
-pub mod parts;
+mod commands;
+mod fields;
+mod header;
+mod lines;
+mod numbers;
+mod parts;
 pub mod reading;
-pub mod records;
+mod records;
 pub mod writing;
 
 #[cfg(test)]

@@ -1,6 +1,5 @@
 // The lines of a text that are not passed over.
-ghost use Rattle.std.specs.Prelude.{◌≡◌, ◌+◌, ◌<◌, ◌≤◌, ◌^◌, [], ◌∷◌, length, MatchOption, OnSome};
-ghost use Rattle.trace_text.specs.Lines.{lines_of, written, Numbered};
+ghost use Rattle.std.specs.Prelude.{◌≡◌, ◌+◌, ◌<◌, ◌≤◌, ◌^◌, [], ◌∷◌, length, MatchOption, OnSome, IfNone};
 
 use crate::fields::is_passed_over;
 use crate::parts::split_part;
@@ -21,6 +20,9 @@ pub(crate) struct Lines<'a> {
 }
 
 impl<'a> Lines<'a> {
+    ghost use Rattle.trace_text.specs.Left.{lines_left, number_behind, numbered};
+
+    /// All lines of a text.
     pub(crate) fn of(text: &'a [u8]) -> Lines<'a>
         ensures rest { result.rest.now ≡ text.now }
         ensures number { result.number ≡ 1 }
@@ -40,10 +42,9 @@ impl<'a> Lines<'a> {
 
     /// The next line that is not passed over, if there is one.
     pub(crate) fn next_written(&mut self) -> Option<Line<'a>>
-        ensures line { MatchOption result
-            ((written self.old.number (lines_of self.old.rest.now) ≡ [])
-            × (self.new.number ≡ self.old.number + length (lines_of self.old.rest.now)))
-            (λ l. written self.old.number (lines_of self.old.rest.now) ≡ record { number = l.number; text = l.text.now } ∷ written self.new.number (lines_of self.new.rest.now)) }
+        ensures line { MatchOption result (lines_left self.old ≡ [])
+            (λ l. lines_left self.old ≡ numbered l ∷ lines_left self.new) }
+        ensures ended { IfNone result (self.new.number ≡ number_behind self.old) }
         ensures shorter { OnSome result (length self.new.rest.now < length self.old.rest.now) }
     {
         while let Some((text, rest)) = split_part(self.rest, b'\n') {

@@ -1,8 +1,9 @@
 // Reading the text of a trace.
-ghost use Rattle.std.specs.Prelude.{◌≡◌, if◌then◌else◌, nat_lt, None, IfOk};
+ghost use Rattle.std.specs.Prelude.{◌≡◌, IfOk};
 ghost use Rattle.std.specs.Result.{result_map_both};
-ghost use Rattle.trace_text.specs.Lines.{fields_of, written, lines_of};
-ghost use Rattle.trace_text.specs.Texts.{record_in, records_in, parsed};
+ghost use Rattle.trace_text.specs.Left.{lines_left};
+ghost use Rattle.trace_text.specs.Lines.{fields_of};
+ghost use Rattle.trace_text.specs.Texts.{next_record, records_in, parsed};
 ghost use Rattle.trace_text.specs.Reading.{content_in};
 
 use crate::header::header_in;
@@ -21,7 +22,7 @@ pub struct TraceRecords {
 
 // The record that a line is behind so many records.
 fn next_record(line: &Line, processors: u8, last: u32, count: usize) -> Option<Record>
-    ensures { result ≡ (if nat_lt count 1048576 then record_in processors last (fields_of line.now.text.now) else None) }
+    ensures { result ≡ next_record processors last count (fields_of line.now.text.now) }
 {
     if count < MOST_RECORDS {
         record_in(line.text, processors, last)
@@ -37,7 +38,7 @@ fn read_records(
     processors: u8,
 ) -> Result<Result<Vec<Record>, usize>, AllocError>
     ensures { IfOk result (λ read. result_map_both (λ v. v.items) (λ n. n) read
-        ≡ records_in processors 0 0 (written lines.entry.number (lines_of lines.entry.rest.now))) }
+        ≡ records_in processors 0 0 (lines_left lines.entry)) }
 {
     let mut records = Vec::new(heap);
     let mut last = 0;
@@ -53,8 +54,8 @@ fn read_records(
     Ok(Ok(records))
 }
 
-/// The processors and the records that a text is, or the number of its first wrong line, counted from 1. Without a
-/// header that is the line behind the last. The only other error is want of memory.
+/// The processors and the records that a text is, or the number of its first wrong line, counted from 1;
+/// without a header that is the line behind the last. The only error is want of memory.
 pub fn read_text(heap: Global, text: &[u8]) -> Result<Result<TraceRecords, usize>, AllocError>
     ensures { IfOk result (λ read. result_map_both content_in (λ n. n) read ≡ parsed text.now) }
 {

@@ -19,19 +19,14 @@ use trace::record::Record;
 fn stamp_from(field: &[u8], last: u32) -> Option<u32>
     ensures { result ≡ stamp_from last field.now }
 {
-    let stamp = read_decimal(field)?;
-    if last <= stamp { Some(stamp) } else { None }
+    read_decimal(field).filter(|stamp| last <= *stamp)
 }
 
 fn processor_below(field: &[u8], processors: u8) -> Option<u8>
     ensures { result ≡ processor_below processors field.now }
 {
-    let processor = read_decimal(field)?;
-    if processor < processors as u32 {
-        Some(processor as u8)
-    } else {
-        None
-    }
+    let processor = u8::try_from(read_decimal(field)?).ok()?;
+    (processor < processors).then_some(processor)
 }
 
 /// The record that a line is in a trace for so many processors, behind a record with this stamp.

@@ -8,8 +8,8 @@ use crate::records::put_record;
 use std::alloc::{AllocError, Global};
 use trace::trace::Trace;
 
-/// The text of a trace, in bytes: a line for the version and the processors, then a line a record. The only error is
-/// want of memory.
+/// The text of a trace, in bytes: a line for the version and the processors, then a line a record.
+/// The only error is want of memory.
 pub fn write_text(heap: Global, trace: &Trace) -> Result<Vec<u8>, AllocError>
     ensures text { IfOk result (λ text. text.items
         ≡ text_of (content_of trace.now.processors trace.now.records.now)) }
