@@ -1,5 +1,5 @@
 -- Digits that are written are read as the number that they were written for.
-use Rattle.std.proofs.Common.{◌≡◌, ℕ, zero, suc, ◌+◌, ◌*◌, ◌/◌, ◌%◌, ◌^◌, ◌<◌, ◌≤◌, Bool, true, false, cond, eqb, ltb, List, [], ◌∷◌, ◌++◌, length, Some, None, sym, refl, ap, ◌∙◌, arith, length-append}
+use Rattle.std.proofs.Common.{◌≡◌, ℕ, zero, suc, ◌+◌, ◌*◌, ◌/◌, ◌%◌, ◌^◌, ◌<◌, ◌≤◌, Bool, true, false, cond, eqb, ltb, List, [], ◌∷◌, ◌++◌, length, Some, None, Option, sym, refl, ap, ◌∙◌, arith, length-append}
 use Rattle.std.proofs.Math.Nat.{pow-zero, pow-suc, one-le-pow}
 use Rattle.std.proofs.Math.Arith.{mod-mul}
 use Rattle.std.proofs.lemmas.Bool.Decides.{nat_tests}
@@ -13,7 +13,8 @@ use Rattle.trace_text.proofs.Words.{Above, Above-append, Word, filled-append}
 digit_back : (base d : ℕ) → base ≤ 16 → d < base → digit_in base (digit_of d) ≡ Some d
 digit_back base d h k = grind (arith, nat_tests)
 
-value-append : (base n : ℕ) (xs ys : List ℕ) → value_from base n (xs ++ ys) ≡ when_some (value_from base n xs) (λ v. value_from base v ys) None
+value-append : (base n : ℕ) (xs ys : List ℕ)
+    → value_from base n (xs ++ ys) ≡ when_some (value_from base n xs) (λ v. value_from base v ys) None
 value-append base n [] ys = refl
 value-append base n (x ∷ xs) ys =
     elim (digit_in base x) as (λ o. when_some o (λ d. value_from base (n * base + d) (xs ++ ys)) None
@@ -23,14 +24,17 @@ value-append base n (x ∷ xs) ys =
 module _ (base : ℕ) (two : 2 ≤ base) (most : base ≤ 16) where
   value_fixed : (width n : ℕ) → value_from base 0 (fixed base width n) ≡ Some (n % base ^ width)
   unfolding fixed
-  value_fixed zero n = let none : 0 ≡ n % 1 = omega arith in ap (λ v. Some v) (none ∙ ap (λ m. n % m) (sym (pow-zero base)))
+  value_fixed zero n =
+      let none : 0 ≡ n % 1 = omega arith in
+      ap (λ v. Some v) (none ∙ ap (λ m. n % m) (sym (pow-zero base)))
   value_fixed (suc width) n =
       let low : n % base < base = omega arith in
       let small = value_fixed width (n / base) in
       let digit = digit_back base (n % base) most low in
       let front = n / base % base ^ width in
+      let some : 1 ≤ base ^ width = one-le-pow width base (omega arith) in
       let all : front * base + n % base ≡ n % base ^ suc width
-      = sym (mod-mul n {m = base ^ width} {c = base} (one-le-pow width base (omega arith)) (omega arith)) ∙ ap (λ m. n % m) (sym (pow-suc base width)) in
+      = sym (mod-mul n {m = base ^ width} {c = base} some (omega arith)) ∙ ap (λ m. n % m) (sym (pow-suc base width)) in
       value-append base 0 (fixed base width (n / base)) (digit_of (n % base) ∷ [])
       ∙ ap (λ o. when_some o (λ v. value_from base v (digit_of (n % base) ∷ [])) None) small
       ∙ ap (λ o. when_some o (λ d. Some (front * base + d)) None) digit
@@ -50,7 +54,8 @@ module _ (base : ℕ) (two : 2 ≤ base) (most : base ≤ 16) where
   unfolding fixed
   high_fixed zero n = tt
   high_fixed (suc width) n =
-      Above-append 35 (fixed base width (n / base)) (digit_of (n % base) ∷ []) (high_fixed width (n / base)) (high_digit (n % base), tt)
+      Above-append 35 (fixed base width (n / base)) (digit_of (n % base) ∷ [])
+      (high_fixed width (n / base)) (high_digit (n % base), tt)
 
   filled_fixed : (width n : ℕ) → is_filled (fixed base (suc width) n) ≡ true
   unfolding fixed
@@ -60,7 +65,8 @@ module _ (base : ℕ) (two : 2 ≤ base) (most : base ≤ 16) where
   word_fixed width n = record { filled = filled_fixed width n; high = high_fixed (suc width) n }
 
 -- a leading zero adds nothing
-zero_first : (base digit : ℕ) (digits : List ℕ) → 0 < base → digit ≡ 48 → value_from base 0 (digit ∷ digits) ≡ value_from base 0 digits
+zero_first : (base digit : ℕ) (digits : List ℕ) → 0 < base → digit ≡ 48
+    → value_from base 0 (digit ∷ digits) ≡ value_from base 0 digits
 zero_first base digit digits h e =
     let low : ltb 0 base ≡ true = grind (arith, nat_tests) in
     let none : 0 * base + 0 ≡ 0 = omega arith in
@@ -68,24 +74,29 @@ zero_first base digit digits h e =
     ∙ ap (λ v. when_some (cond v (Some 0) None) (λ d. value_from base (0 * base + d) digits) None) low
     ∙ ap (λ n. value_from base n digits) none
 
-value_zeros : (base : ℕ) (digits : List ℕ) → 0 < base → value_from base 0 (without_zeros digits) ≡ value_from base 0 digits
+value_zeros : (base : ℕ) (digits : List ℕ) → 0 < base
+    → value_from base 0 (without_zeros digits) ≡ value_from base 0 digits
 value_zeros base [] h = refl
 value_zeros base (digit ∷ []) h = refl
 value_zeros base (digit ∷ (next ∷ later)) h =
-    let rest = value_zeros base (next ∷ later) h in
-    let by_digit : (b : Bool) → eqb digit 48 ≡ b
-    → value_from base 0 (cond b (without_zeros (next ∷ later)) (digit ∷ (next ∷ later))) ≡ value_from base 0 (digit ∷ (next ∷ later))
-    = λ b. elim b as (λ v. eqb digit 48 ≡ v
-    → value_from base 0 (cond v (without_zeros (next ∷ later)) (digit ∷ (next ∷ later))) ≡ value_from base 0 (digit ∷ (next ∷ later)))
-    [ true ↦ λ e. rest ∙ sym (zero_first base digit (next ∷ later) h (grind (arith, nat_tests))) | false ↦ λ e. refl ] in
+    let rest = next ∷ later in
+    let all = digit ∷ rest in
+    let read : List ℕ → Option ℕ = value_from base 0 in
+    let fewer : read (without_zeros rest) ≡ read rest = value_zeros base (next ∷ later) h in
+    let by_digit : (b : Bool) → eqb digit 48 ≡ b → read (cond b (without_zeros rest) all) ≡ read all
+    = λ b. elim b as (λ v. eqb digit 48 ≡ v → read (cond v (without_zeros rest) all) ≡ read all) [
+      | true ↦ λ e. fewer ∙ sym (zero_first base digit rest h (grind (arith, nat_tests)))
+      | false ↦ λ e. refl
+    ] in
     by_digit (eqb digit 48) refl
 
 length_zeros : (digits : List ℕ) → length (without_zeros digits) ≤ length digits
 length_zeros [] = omega arith
 length_zeros (digit ∷ []) = omega arith
 length_zeros (digit ∷ (next ∷ later)) =
-    let rest = length_zeros (next ∷ later) in
-    elim (eqb digit 48) as (λ v. length (cond v (without_zeros (next ∷ later)) (digit ∷ (next ∷ later))) ≤ length (digit ∷ (next ∷ later)))
+    let rest = next ∷ later in
+    let fewer : length (without_zeros rest) ≤ length rest = length_zeros (next ∷ later) in
+    elim (eqb digit 48) as (λ v. length (cond v (without_zeros rest) (digit ∷ rest)) ≤ length (digit ∷ rest))
     [ true ↦ omega arith | false ↦ omega arith ]
 
 word_zeros : (digits : List ℕ) → Word digits → Word (without_zeros digits)
@@ -121,6 +132,7 @@ decimal_back n h =
     let few = length_zeros ten in
     let word = word_decimal n in
     let same : n % 10000000000 ≡ n = omega arith in
+    let value = value_zeros 10 ten (omega arith) ∙ value_fixed 10 (omega arith) (omega arith) 10 n in
     in_number 10 10 (without_zeros ten) (some_filled (without_zeros ten) word.filled) (omega arith)
-    ∙ ap fitting (value_zeros 10 ten (omega arith) ∙ value_fixed 10 (omega arith) (omega arith) 10 n ∙ ap (λ v. Some v) same)
+    ∙ ap fitting (value ∙ ap (λ v. Some v) same)
     ∙ fits n h

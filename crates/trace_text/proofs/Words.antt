@@ -33,7 +33,8 @@ AllWords (word ∷ words) = Word word × AllWords words
 
 -- parts of bytes above the separator
 module _ (low separator : ℕ) (under : separator ≤ low) where
-  pub part_ended : (xs rest : List ℕ) → Above low xs → parts separator (xs ++ (separator ∷ rest)) ≡ xs ∷ parts separator rest
+  pub part_ended : (xs rest : List ℕ) → Above low xs
+      → parts separator (xs ++ (separator ∷ rest)) ≡ xs ∷ parts separator rest
   part_ended [] rest h = let same : eqb separator separator ≡ true = grind (arith, nat_tests) in rw same refl
   part_ended (x ∷ xs) rest h =
       let first = h.0 in
@@ -67,12 +68,14 @@ pub fields_read : (words : List (List ℕ)) → AllWords words → fields_of (sp
 fields_read [] h = refl
 fields_read (word ∷ []) h = last_field_read word h.0
 fields_read (word ∷ (next ∷ later)) h =
+    let behind = spaced (next ∷ later) in
     let rest = fields_read (next ∷ later) h.1 in
-    ap (filter is_filled) (part_ended 35 32 (omega arith) word (spaced (next ∷ later)) h.0.high)
-    ∙ ap (λ v. cond v (word ∷ fields_of (spaced (next ∷ later))) (fields_of (spaced (next ∷ later)))) h.0.filled
+    ap (filter is_filled) (part_ended 35 32 (omega arith) word behind h.0.high)
+    ∙ ap (λ v. cond v (word ∷ fields_of behind) (fields_of behind)) h.0.filled
     ∙ ap (λ ws. word ∷ ws) rest
 
-line_spaced : (word : List ℕ) (words : List (List ℕ)) → line_of (word ∷ words) ≡ spaced (word ∷ words) ++ (10 ∷ [])
+line_spaced : (word : List ℕ) (words : List (List ℕ))
+    → line_of (word ∷ words) ≡ spaced (word ∷ words) ++ (10 ∷ [])
 line_spaced word [] = refl
 line_spaced word (next ∷ later) =
     append_assoc word (32 ∷ []) (line_of (next ∷ later))
@@ -83,13 +86,15 @@ high_spaced : (words : List (List ℕ)) → AllWords words → Above 10 (spaced 
 high_spaced [] h = tt
 high_spaced (word ∷ []) h = lower 10 35 word (omega arith) h.0.high
 high_spaced (word ∷ (next ∷ later)) h =
-    Above-append 10 word (32 ∷ spaced (next ∷ later)) (lower 10 35 word (omega arith) h.0.high) (omega arith, high_spaced (next ∷ later) h.1)
+    Above-append 10 word (32 ∷ spaced (next ∷ later)) (lower 10 35 word (omega arith) h.0.high)
+    (omega arith, high_spaced (next ∷ later) h.1)
 
 no_comment : (word rest : List ℕ) → Word word → is_comment (word ++ rest) ≡ false
 no_comment [] rest w = let none = w.filled in cc
 no_comment (x ∷ xs) rest w = let first = w.high.0 in grind (arith, nat_tests)
 
-no_comment_spaced : (word : List ℕ) (words : List (List ℕ)) → Word word → is_comment (spaced (word ∷ words)) ≡ false
+no_comment_spaced : (word : List ℕ) (words : List (List ℕ)) → Word word
+    → is_comment (spaced (word ∷ words)) ≡ false
 no_comment_spaced [] [] w = let none = w.filled in cc
 no_comment_spaced (x ∷ xs) [] w = let first = w.high.0 in grind (arith, nat_tests)
 no_comment_spaced word (next ∷ later) w = no_comment word (32 ∷ spaced (next ∷ later)) w
@@ -110,7 +115,9 @@ module _ (word : List ℕ) (words : List (List ℕ)) (all : AllWords (word ∷ w
       ap (λ v. v || no_fields (fields_of body)) (no_comment_spaced word words all.0)
       ∙ ap no_fields (fields_read (word ∷ words) all)
 
-  pub next_written : (n : ℕ) (rest : List ℕ) → written n (lines_of (line_of (word ∷ words) ++ rest)) ≡ record { number = n; text = body } ∷ written (n + 1) (lines_of rest)
+  pub next_written : (n : ℕ) (rest : List ℕ) → written n (lines_of (line_of (word ∷ words) ++ rest))
+      ≡ record { number = n; text = body } ∷ written (n + 1) (lines_of rest)
   next_written n rest =
+      let later = written (n + 1) (lines_of rest) in
       ap (written n) (next_line rest)
-      ∙ ap (λ v. cond v (written (n + 1) (lines_of rest)) (record { number = n; text = body } ∷ written (n + 1) (lines_of rest))) not_passed
+      ∙ ap (λ v. cond v later (record { number = n; text = body } ∷ later)) not_passed

@@ -7,6 +7,9 @@ use Rattle.trace_text.proofs.header.put_header.Goals as goal
 
 pub returns : goal.returns
 returns c =
-    behind c.args.out.now.items (codes "trace version 1 processors ") (last_field (decimal_text c.args.processors))
-    (pushed (codes "trace version 1 processors ") refl c.in_ok-extend_from_slice.was c.extend_from_slice.ensures.items)
-    (c.in_ok-put_last.ensures ∙ ap (λ ds. c.extend_from_slice.new.self.items ++ last_field ds) (c.without_zeros.ensures ∙ ap without_zeros c.decimal.ensures))
+    let words = codes "trace version 1 processors " in
+    let begun = c.extend_from_slice in
+    let digits = c.without_zeros.ensures ∙ ap without_zeros c.decimal.ensures in
+    behind c.args.out.now.items words (last_field (decimal_text c.args.processors))
+    (pushed words refl c.in_ok-extend_from_slice.was begun.ensures.items)
+    (c.in_ok-put_last.ensures ∙ ap (λ ds. begun.new.self.items ++ last_field ds) digits)

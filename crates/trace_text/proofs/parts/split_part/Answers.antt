@@ -10,8 +10,9 @@ returns-clause-parts c =
     let s = c.args.separator in
     let place = c.place_of-place.ensures.place in
     let n = c.min-behind.result in
-    let behind : take (length bytes - n) (drop n bytes) ≡ drop (c.place_of-place.result + 1) bytes
-    = take_rest bytes n ∙ ap (λ m. drop m bytes) c.min-behind.ensures ∙ drop_min (c.place_of-place.result + 1) bytes in
-    parts_split s (c.place_of-place.result + 1) bytes (search rules) (ap (λ p. p + 1) place)
-    ∙ ap (λ p. take p bytes ∷ parts s (drop (c.place_of-place.result + 1) bytes)) (sym place)
+    let next = c.place_of-place.result + 1 in
+    let behind : take (length bytes - n) (drop n bytes) ≡ drop next bytes
+    = take_rest bytes n ∙ ap (λ m. drop m bytes) c.min-behind.ensures ∙ drop_min next bytes in
+    parts_split s next bytes (search rules) (ap (λ p. p + 1) place)
+    ∙ ap (λ p. take p bytes ∷ parts s (drop next bytes)) (sym place)
     ∙ ap (λ ys. take c.place_of-place.result bytes ∷ parts s ys) (sym behind)
