@@ -34,7 +34,8 @@ module _ (base : ℕ) (two : 2 ≤ base) (most : base ≤ 16) where
       let front = n / base % base ^ width in
       let some : 1 ≤ base ^ width = one-le-pow width base (omega arith) in
       let all : front * base + n % base ≡ n % base ^ suc width
-      = sym (mod-mul n {m = base ^ width} {c = base} some (omega arith)) ∙ ap (λ m. n % m) (sym (pow-suc base width)) in
+      = sym (mod-mul n {m = base ^ width} {c = base} some (omega arith))
+      ∙ ap (λ m. n % m) (sym (pow-suc base width)) in
       value-append base 0 (fixed base width (n / base)) (digit_of (n % base) ∷ [])
       ∙ ap (λ o. when_some o (λ v. value_from base v (digit_of (n % base) ∷ [])) None) small
       ∙ ap (λ o. when_some o (λ d. Some (front * base + d)) None) digit

@@ -125,7 +125,8 @@ records_back processors last count number (r ∷ rs) h =
     let go : Option Record → Result (List Record) ℕ
     = λ o. when_some o (λ q.
     result_map_both (λ qs. q ∷ qs) (λ n. n) (records_in processors q.stamp (count + 1) left)) (Err number) in
-    ap (records_in processors last count) (next_written (decimal_text r.stamp) (later_fields r) words number text)
+    let begun = next_written (decimal_text r.stamp) (later_fields r) words number text in
+    ap (records_in processors last count) begun
     ∙ ap (λ v. go (cond v (record_in processors last line) None)) few
     ∙ ap (λ fs. go (record_in processors last fs)) (fields_read (record_fields r) words)
     ∙ ap go (record_back processors last r h.0 h.1)
@@ -160,16 +161,19 @@ module _ (processors : ℕ) (rs : List Record) where
   abbrev content : Content
   content = record { processors = processors; records = rs }
 
-  pub text_back : 1 ≤ processors → processors ≤ 8 → Follow processors 0 0 rs → parsed (text_of content) ≡ Ok content
+  pub text_back : 1 ≤ processors → processors ≤ 8 → Follow processors 0 0 rs
+      → parsed (text_of content) ≡ Ok content
   text_back some few h =
       let lines = flat_map record_line rs in
       let left = written 2 (lines_of lines) in
       let words = words_header processors in
       let later = codes "version" ∷ (codes "1" ∷ (codes "processors" ∷ (decimal_text processors ∷ []))) in
-      let go : Option ℕ → Result Content ℕ
-      = λ o. when_some o (λ p.
-      result_map_both (λ qs. record { processors = p; records = qs }) (λ n. n) (records_in p 0 0 left)) (Err 1) in
-      ap (trace_in (1 + length (lines_of (text_of content)))) (next_written (codes "trace") later words 1 lines)
+      let read : ℕ → Result Content ℕ
+      = λ p.
+      result_map_both (λ qs. record { processors = p; records = qs }) (λ n. n) (records_in p 0 0 left) in
+      let go : Option ℕ → Result Content ℕ = λ o. when_some o read (Err 1) in
+      let behind = 1 + length (lines_of (text_of content)) in
+      ap (trace_in behind) (next_written (codes "trace") later words 1 lines)
       ∙ ap (λ fs. go (header_in fs)) (fields_read (header_fields processors) words)
       ∙ ap go (header_back processors some few)
       ∙ ap (result_map_both (λ qs. record { processors = processors; records = qs }) (λ n. n))
@@ -192,7 +196,8 @@ follow_from processors (suc n) stamp i bytes h few =
     rw first.given (λ small. (small.0, first.may, omega (arith, few), rest small.1))
 
 module _ (processors : ℕ) (bytes : List ℕ) where
-  pub trace_back : 1 ≤ processors → processors ≤ 8 → wrong_from processors 0 0 (bytes_records bytes) bytes ≡ None
+  pub trace_back : 1 ≤ processors → processors ≤ 8
+      → wrong_from processors 0 0 (bytes_records bytes) bytes ≡ None
       → bytes_records bytes ≤ 1048576 → AllInRange (records_of bytes)
       → parsed (text_of (content_of processors bytes)) ≡ Ok (content_of processors bytes)
   trace_back some few sound most small =

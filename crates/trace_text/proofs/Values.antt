@@ -13,7 +13,9 @@ pub too_large : (base n : ℕ) (digits : List ℕ) → 0 < base → 4294967296 �
 too_large base n [] h large = let past : ltb n 4294967296 ≡ false = grind (arith, nat_tests) in rw past refl
 too_large base n (digit ∷ digits) h large =
     let more : (d : ℕ) → fitting (value_from base (n * base + d) digits) ≡ None
-    = λ d. let up : n ≤ n * base = le-mul_of_pos_right n h in too_large base (n * base + d) digits h (omega arith) in
+    = λ d.
+    let up : n ≤ n * base = le-mul_of_pos_right n h in
+    too_large base (n * base + d) digits h (omega arith) in
     elim (digit_in base digit) as (λ o.
     fitting (when_some o (λ d. value_from base (n * base + d) digits) None) ≡ None)
     [ None ↦ refl | Some d ↦ more d ]
@@ -52,10 +54,12 @@ module _ (base most n i : ℕ) (digits : List ℕ) (few : length digits ≤ most
   pub overflowed : (d : ℕ) → 10 ≤ base → i < length digits → digit_in base (get_or digits i 0) ≡ Some d
       → 4294967296 ≤ n * base + d → number_in base most digits ≡ None
   overflowed d h inside read large =
-      in_number base most digits (omega arith) few ∙ sym kept ∙ ap fitting (next_digit base n i d digits inside read)
+      in_number base most digits (omega arith) few ∙ sym kept
+      ∙ ap fitting (next_digit base n i d digits inside read)
       ∙ too_large base (n * base + d) (drop (i + 1) digits) (omega arith) large
 
-  pub whole_number : 0 < length digits → length digits ≤ i → n < 4294967296 → number_in base most digits ≡ Some n
+  pub whole_number : 0 < length digits → length digits ≤ i → n < 4294967296
+      → number_in base most digits ≡ Some n
   whole_number some done small =
       let low : ltb n 4294967296 ≡ true = grind (arith, nat_tests) in
       let none : drop i digits ≡ [] = drop_all i digits done in

@@ -73,7 +73,8 @@ header_in other = None
 
 -- the record that some fields are behind so many records, of which the last has this stamp
 abbrev pub next_record : ℕ → ℕ → ℕ → List (List ℕ) → Option Record
-next_record processors last count fields = if nat_lt count 1048576 then record_in processors last fields else None
+next_record processors last count fields =
+    if nat_lt count 1048576 then record_in processors last fields else None
 
 -- the records that some lines are behind so many records, or the number of the first line that is none
 abbrev pub records_in : ℕ → ℕ → ℕ → List Numbered → Result (List Record) ℕ

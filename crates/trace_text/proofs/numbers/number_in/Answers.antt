@@ -10,8 +10,9 @@ returns-in_err-checked_mul c =
     let at = c.loop-byte in
     let i = at.byte-index in
     let d = c.in_ok-digit.digit in
-    let read : digit_in base (get_or digits i 0) ≡ Some d
-    = digit_read base (get_or digits i 0) c.from.result d c.from.ensures c.in_ok-digit.ensures.value in
+    let byte = get_or digits i 0 in
+    let read : digit_in base byte ≡ Some d
+    = digit_read base byte c.from.result d c.from.ensures c.in_ok-digit.ensures.value in
     let large : 4294967296 ≤ at.number * base + d = omega (arith, c.in_err-checked_mul.ensures) in
     c.from_residual-in_err-checked_mul.ensures
     ∙ sym (overflowed base c.args.most at.number i digits c.if-digits-most.false at.invariant.0
@@ -25,9 +26,11 @@ returns-in_err-number c =
     let i = at.byte-index in
     let d = c.in_ok-digit.digit in
     let product = c.in_ok-checked_mul.ensures in
-    let read : digit_in base (get_or digits i 0) ≡ Some d
-    = digit_read base (get_or digits i 0) c.from.result d c.from.ensures c.in_ok-digit.ensures.value in
-    let large : 4294967296 ≤ at.number * base + d = omega (arith, product, c.in_err-number.ensures) in
+    let byte = get_or digits i 0 in
+    let read : digit_in base byte ≡ Some d
+    = digit_read base byte c.from.result d c.from.ensures c.in_ok-digit.ensures.value in
+    let past = c.in_err-number.ensures in
+    let large : 4294967296 ≤ at.number * base + d = omega (arith, product, past) in
     c.from_residual-in_err-number.ensures
     ∙ sym (overflowed base c.args.most at.number i digits c.if-digits-most.false at.invariant.0
     d (omega arith) c.loop-byte-test.true read large)

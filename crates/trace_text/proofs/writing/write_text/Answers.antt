@@ -25,7 +25,8 @@ loop-record-preserved c =
 
 same : (c : goal.In-None) → c.into_iter-record-iterator.result.bytes.now ≡ c.args.trace.now.records.now
 same c =
-    ap (λ x. x.bytes.now) c.into_iter-record-iterator.ensures.into_iter_gives ∙ c.records-record-items.ensures
+    let told = c.into_iter-record-iterator.ensures.into_iter_gives in
+    ap (λ x. x.bytes.now) told ∙ c.records-record-items.ensures
 
 over : (c : goal.In-None) → records_of c.loop-record.record-iterator.bytes.now ≡ []
 over c =
