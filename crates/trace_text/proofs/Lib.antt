@@ -3,3 +3,4 @@ pub mod Values
 pub mod Words
 pub mod Digits
 pub mod Law
+pub mod Placing

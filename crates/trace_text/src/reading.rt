@@ -4,7 +4,7 @@ ghost use Rattle.std.specs.Result.{result_map_both};
 ghost use Rattle.trace_text.specs.Left.{lines_left};
 ghost use Rattle.trace_text.specs.Lines.{fields_of};
 ghost use Rattle.trace_text.specs.Texts.{next_record, records_in, parsed};
-ghost use Rattle.trace_text.specs.Reading.{content_in};
+ghost use Rattle.trace_text.specs.Reading.{content_in, MayBeWritten};
 
 use crate::header::header_in;
 use crate::lines::{Line, Lines};
@@ -57,7 +57,9 @@ fn read_records(
 /// The processors and the records that a text is, or the number of its first wrong line, counted from 1;
 /// without a header that is the line behind the last. The only error is want of memory.
 pub fn read_text(heap: Global, text: &[u8]) -> Result<Result<TraceRecords, usize>, AllocError>
-    ensures { IfOk result (λ read. result_map_both content_in (λ n. n) read ≡ parsed text.now) }
+    ensures value { IfOk result (λ read.
+        result_map_both content_in (λ n. n) read ≡ parsed text.now) }
+    ensures may_be_written { IfOk result (λ read. IfOk read MayBeWritten) }
 {
     let mut lines = Lines::of(text);
     let Some(first) = lines.next_written() else {
