@@ -73,7 +73,7 @@ fn cell(counts: bool, step: &Step) -> Option<usize>
 }
 
 // Counts a step at a place, if there is one in the table.
-fn count_at(counts: &mut [u64], place: Option<usize>)
+pub(crate) fn count_at(counts: &mut [u64], place: Option<usize>)
     ensures { counts.new ≡ one_more_at counts.old place }
 {
     match place {
