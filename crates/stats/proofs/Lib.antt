@@ -1,2 +1,4 @@
 pub mod Tables
 pub mod Tallies
+pub mod Blocks
+pub mod Along

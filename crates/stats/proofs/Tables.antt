@@ -1,11 +1,16 @@
 -- Tables of counts.
-use Rattle.std.proofs.Common.{◌≡◌, ℕ, zero, suc, ◌+◌, ◌*◌, ◌/◌, ◌%◌, ◌^◌, ◌<◌, ◌≤◌, Bool, true, false, cond, ◌&&◌, eqb, ltb, ◌⊎◌, ◌≢◌, List, [], ◌∷◌, length, get_or, set, Some, None, Option, sym, refl, ap, ◌∙◌, inl, inr, arith, mod-eq_of_lt, length-set}
+use Rattle.std.proofs.Common.{◌≡◌, ℕ, zero, suc, ◌+◌, ◌*◌, ◌/◌, ◌%◌, ◌^◌, ◌<◌, ◌≤◌, Bool, true, false, cond, ◌&&◌, eqb, ltb, ◌⊎◌, ◌≢◌, List, [], ◌∷◌, length, get_or, map, replicate, set, Some, None, Option, sym, refl, ap, ◌∙◌, inl, inr, arith, mod-eq_of_lt, length-set}
 use Rattle.std.proofs.lemmas.List.{get_or-set_other}
 use Rattle.std.proofs.lemmas.Grind.{get_or-set_at}
 use Rattle.std.proofs.lemmas.Bool.Decides.{eqb_tells, leb_tells, nat_tests}
 use Rattle.protocol.specs.declared.command.Command.{Command}
 use Rattle.protocol.specs.declared.command.Command.TheVariants.{R, W, DW, RI, RP, RB, LR, UW, U}
 use Rattle.protocol.specs.declared.command.Request.{Request}
+use Rattle.std.specs.List.{count_by, range_with_len}
+use Rattle.std.proofs.lemmas.List.{get_or-replicate, length-replicate}
+use Rattle.std.proofs.lemmas.List.FromFn.{fill_by_all}
+use Rattle.std.proofs.lemmas.List.Sums.{sum_by-cons, count_by-le-length}
+use Rattle.stats.specs.Copies.{all_counted}
 use Rattle.stats.specs.Events.{is_number, cell_of, asks, place_of}
 use Rattle.stats.specs.Tallying.{wrapped, one_more_at}
 
@@ -93,3 +98,42 @@ one_more counts (Some place) k inside fits = elim (leb_tells (suc place) (length
     at (inr apart) low =
         let none : as_one (eqb place k) ≡ 0 = ap as_one apart.0 in
         get_or-set_other counts place k more 0 (λ e. apart.1 (sym e)) ∙ omega (arith, none)
+
+-- elements counted one after another
+module _ {X : Type 0} (place : X → Option ℕ) where
+  abbrev pub is_placed : ℕ → X → Bool
+  is_placed k x = is_number k (place x)
+
+  pub length-all_counted : (xs : List X) (counts : List ℕ)
+      → length (all_counted place counts xs) ≡ length counts
+  length-all_counted [] counts = refl
+  length-all_counted (x ∷ xs) counts =
+      length-all_counted xs (one_more_at counts (place x)) ∙ length-one_more_at counts (place x)
+
+  pub cell-all_counted : (k : ℕ) (xs : List X) (counts : List ℕ) → k < length counts
+      → get_or counts k 0 + count_by (is_placed k) xs < 2 ^ 64
+      → get_or (all_counted place counts xs) k 0 ≡ get_or counts k 0 + count_by (is_placed k) xs
+  cell-all_counted k [] counts inside fits = omega arith
+  cell-all_counted k (x ∷ xs) counts inside fits =
+      let more = sum_by-cons (λ y. as_one (is_placed k y)) x xs in
+      let here = one_more counts (place x) k inside (omega (arith, more, fits)) in
+      let long = length-one_more_at counts (place x) in
+      let rest = cell-all_counted k xs (one_more_at counts (place x)) (omega (arith, long, inside))
+      (omega (arith, here, more, fits)) in
+      omega (arith, more, here, rest)
+
+  -- from no counts on, each number of a table is how many elements have its place
+  abbrev zeros : ℕ → List ℕ
+  zeros n = replicate n 0
+
+  pub all_counted_by : (n : ℕ) (xs : List X) → length xs < 2 ^ 64
+      → all_counted place (replicate n 0) xs ≡ map (λ k. count_by (is_placed k) xs) (range_with_len 0 n)
+  all_counted_by n xs short =
+      let long : length (zeros n) ≡ n = length-replicate n 0 in
+      fill_by_all (λ k. count_by (is_placed k) xs) (all_counted place (zeros n) xs) n 0
+      (length-all_counted xs (zeros n) ∙ long)
+      (λ k h. let none : get_or (zeros n) k 0 ≡ 0 = get_or-replicate n k 0 0 h in
+      let most = count_by-le-length (is_placed k) xs in
+      let cell = cell-all_counted k xs (zeros n) (omega (arith, long, h))
+      (omega (arith, none, most, short)) in
+      omega (arith, none, cell))

@@ -1,17 +1,17 @@
 -- The numbers of all steps.
-use Rattle.std.proofs.Common.{◌≡◌, ℕ, zero, suc, ◌+◌, ◌*◌, ◌/◌, ◌%◌, ◌^◌, ◌<◌, ◌≤◌, Bool, true, false, cond, ◌&&◌, List, [], ◌∷◌, length, get_or, replicate, Some, None, Option, sym, refl, ap, ◌∙◌, arith, mod-eq_of_lt}
+use Rattle.std.proofs.Common.{◌≡◌, ℕ, zero, suc, ◌+◌, ◌*◌, ◌/◌, ◌%◌, ◌^◌, ◌<◌, ◌≤◌, Bool, true, false, cond, ◌&&◌, List, [], ◌∷◌, length, get_or, map, replicate, Some, None, Option, sym, refl, ap, ◌∙◌, arith, mod-eq_of_lt}
 use Rattle.std.specs.List.{fold, sum_by, count_by, range_with_len}
 use Rattle.std.proofs.lemmas.List.Sums.{sum_by-cons}
-use Rattle.std.proofs.lemmas.List.FromFn.{fill_by_all}
+use Rattle.std.proofs.lemmas.List.FromFn.{fill_by_all, length-map-range_with_len, get_or-map-range_with_len}
 use Rattle.protocol.specs.declared.measures.Costs.{Costs}
 use Rattle.protocol.specs.Limits.{LowCosts}
 use Rattle.text.specs.declared.step.Step.{Step}
 use Rattle.stats.specs.declared.tally.Causes.{Causes}
 use Rattle.stats.specs.declared.tally.Tally.{Tally}
+use Rattle.stats.specs.Copies.{all_counted}
 use Rattle.stats.specs.Events.{is_number, cell_of, is_done, is_waiting, is_refused, is_refused_with, refusal_in, is_hit, is_miss, is_from_cache, is_from_memory, swaps_out, sends_f, sends_fi, sends_i, sends_lk, sends_ul, is_lr_hit, is_exclusive_lr_hit, is_release, is_unwaited_release}
 use Rattle.stats.specs.Tallying.{sends_lock_signal, cost_if, no_cycles, one_more_at, by_command, steps_with, by_refusal, causes_of, tally_of, no_steps, added}
-use Rattle.std.proofs.lemmas.List.{get_or-replicate, length-replicate}
-use Rattle.stats.proofs.Tables.{as_one, in_cell, length-one_more_at, one_more}
+use Rattle.stats.proofs.Tables.{as_one, in_cell, is_placed, all_counted_by}
 
 sum_low : (amount : Step → ℕ) (most : ℕ) → ((s : Step) → amount s ≤ most) → (steps : List Step)
     → sum_by amount steps ≤ length steps * most
@@ -27,6 +27,17 @@ count_low test s = by_test (test s)
     by_test : (b : Bool) → cond b 1 0 ≤ 1000
     by_test true = omega arith
     by_test false = omega arith
+
+-- the steps counted in a table's cells are those of a processor and a command
+cells_of : (kind : Step → Bool) (steps : List Step)
+    → map (λ k. count_by (is_placed (λ (s : Step). cell_of (kind s) s.request) k) steps) (range_with_len 0 72)
+    ≡ by_command (λ p c. count_by (steps_with kind p c) steps)
+cells_of kind steps =
+    let f : ℕ → ℕ = λ k. count_by (is_placed (λ (s : Step). cell_of (kind s) s.request) k) steps in
+    fill_by_all (λ k. count_by (steps_with kind (k / 9) (k % 9)) steps) (map f (range_with_len 0 72)) 72 0
+    (length-map-range_with_len f 0 72)
+    (λ k h. get_or-map-range_with_len f 0 72 k k 0 h (omega arith)
+    ∙ (λ i. count_by (λ s. in_cell (kind s) s.request k h i) steps))
 
 module _ (costs : Costs) where
   abbrev pub all_added : Tally → List Step → Tally
@@ -44,28 +55,16 @@ module _ (costs : Costs) where
       let rest = adds_up out amount one ss (added costs s t) (omega (arith, here, more, fits)) in
       omega (arith, more, here, rest)
 
-  module _ (table : Tally → List ℕ) (place : Step → Option ℕ)
-      (one : (t : Tally) (s : Step) → table (added costs s t) ≡ one_more_at (table t) (place s)) where
-    table_long : (steps : List Step) (t : Tally) → length (table (all_added t steps)) ≡ length (table t)
-    table_long [] t = refl
-    table_long (s ∷ ss) t =
-        table_long ss (added costs s t) ∙ ap length (one t s) ∙ length-one_more_at (table t) (place s)
+  -- a table of which each step is counted at a place
+  abbrev Counts : (Tally → List ℕ) → (Step → Option ℕ) → Type 0
+  Counts table place =
+      (t : Tally) (s : Step) → table (added costs s t) ≡ one_more_at (table t) (place s)
 
-    -- each number of a table counts the steps with its place
-    cells_add_up : (k : ℕ) (steps : List Step) (t : Tally) → k < length (table t)
-        → get_or (table t) k 0 + count_by (λ s. is_number k (place s)) steps < 2 ^ 64
-        → get_or (table (all_added t steps)) k 0
-        ≡ get_or (table t) k 0 + count_by (λ s. is_number k (place s)) steps
-    cells_add_up k [] t inside fits = omega arith
-    cells_add_up k (s ∷ ss) t inside fits =
-        let more = sum_by-cons (λ x. cond (is_number k (place x)) 1 0) s ss in
-        let told : get_or (table (added costs s t)) k 0 ≡ get_or (one_more_at (table t) (place s)) k 0
-        = ap (λ l. get_or l k 0) (one t s) in
-        let here = told ∙ one_more (table t) (place s) k inside (omega (arith, more, fits)) in
-        let long = ap length (one t s) ∙ length-one_more_at (table t) (place s) in
-        let rest = cells_add_up k ss (added costs s t) (omega (arith, long, inside))
-        (omega (arith, here, more, fits)) in
-        omega (arith, more, here, rest)
+  counts_all : (table : Tally → List ℕ) (place : Step → Option ℕ) → Counts table place
+      → (steps : List Step) (t : Tally) → table (all_added t steps) ≡ all_counted place (table t) steps
+  counts_all table place one [] t = refl
+  counts_all table place one (s ∷ ss) t =
+      counts_all table place one ss (added costs s t) ∙ ap (λ l. all_counted place l ss) (one t s)
 
   module _ (low : LowCosts costs) (steps : List Step) (few : length steps ≤ 999999999) where
     abbrev pub all : Tally
@@ -95,33 +94,18 @@ module _ (costs : Costs) where
         by_test true = most
         by_test false = omega arith
 
-    cell : (n : ℕ) (table : Tally → List ℕ) (place : Step → Option ℕ) → table no_steps ≡ replicate n 0
-        → ((t : Tally) (s : Step) → table (added costs s t) ≡ one_more_at (table t) (place s))
-        → (k : ℕ) → k < n → get_or (table all) k 0 ≡ count_by (λ s. is_number k (place s)) steps
-    cell n table place start one k h =
-        let none : get_or (table no_steps) k 0 ≡ 0 =
-        ap (λ l. get_or l k 0) start ∙ get_or-replicate n k 0 0 h in
-        let long : length (table no_steps) ≡ n = ap length start ∙ length-replicate n 0 in
-        let short = fits (λ s. as_one (is_number k (place s))) (count_low (λ s. is_number k (place s))) in
-        let sum = cells_add_up table place one k steps no_steps (omega (arith, long, h))
-        (omega (arith, none, short)) in
-        omega (arith, sum, none)
-
-    long : (n : ℕ) (table : Tally → List ℕ) (place : Step → Option ℕ) → table no_steps ≡ replicate n 0
-        → ((t : Tally) (s : Step) → table (added costs s t) ≡ one_more_at (table t) (place s))
-        → length (table all) ≡ n
-    long n table place start one =
-        table_long table place one steps no_steps ∙ ap length start ∙ length-replicate n 0
+    placed : (n : ℕ) (table : Tally → List ℕ) (place : Step → Option ℕ)
+        → table no_steps ≡ replicate n 0 → Counts table place
+        → table all ≡ map (λ k. count_by (is_placed place k) steps) (range_with_len 0 n)
+    placed n table place start one =
+        counts_all table place one steps no_steps ∙ ap (λ l. all_counted place l steps) start
+        ∙ all_counted_by place n steps (omega (arith, few))
 
     by_kind : (table : Tally → List ℕ) (kind : Step → Bool) → table no_steps ≡ replicate 72 0
-        → ((t : Tally) (s : Step) → table (added costs s t) ≡ one_more_at (table t) (cell_of (kind s) s.request))
+        → Counts table (λ s. cell_of (kind s) s.request)
         → table all ≡ by_command (λ p c. count_by (steps_with kind p c) steps)
     by_kind table kind start one =
-        let place = λ (s : Step). cell_of (kind s) s.request in
-        fill_by_all (λ k. count_by (steps_with kind (k / 9) (k % 9)) steps) (table all) 72 0
-        (long 72 table place start one)
-        (λ k h. cell 72 table place start one k h
-        ∙ (λ i. count_by (λ s. in_cell (kind s) s.request k h i) steps))
+        placed 72 table (λ s. cell_of (kind s) s.request) start one ∙ cells_of kind steps
 
     causes : all.cycles ≡ causes_of costs steps
     causes =
@@ -149,9 +133,7 @@ module _ (costs : Costs) where
       done = by_kind (λ t. t.done) is_done refl (λ t s. refl) i;
       waiting = by_kind (λ t. t.waiting) is_waiting refl (λ t s. refl) i;
       refused = by_kind (λ t. t.refused) is_refused refl (λ t s. refl) i;
-      refusals = fill_by_all (λ k. count_by (is_refused_with k) steps) all.refusals 16 0
-          (long 16 (λ t. t.refusals) (λ s. refusal_in s.answer) refl (λ t s. refl))
-          (cell 16 (λ t. t.refusals) (λ s. refusal_in s.answer) refl (λ t s. refl)) i;
+      refusals = placed 16 (λ t. t.refusals) (λ s. refusal_in s.answer) refl (λ t s. refl) i;
       hits = counted (λ t. t.hits) is_hit refl (λ t s h. mod-eq_of_lt h) i;
       misses = counted (λ t. t.misses) is_miss refl (λ t s h. mod-eq_of_lt h) i;
       from_cache = counted (λ t. t.from_cache) is_from_cache refl (λ t s h. mod-eq_of_lt h) i;

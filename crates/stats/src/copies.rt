@@ -46,13 +46,24 @@ fn count_copies(copies: &mut [u64], lines: &[Line])
     }
 }
 
-// Counts each number at itself.
-fn count_numbers(counts: &mut [u64], numbers: &[u64])
-    ensures { counts.new ≡ all_counted Some counts.old numbers.now }
+// The copies of each block.
+fn copies_of_each(heap: Global, lines: &[Line], blocks: u32) -> Result<Vec<u64>, AllocError>
+    ensures { IfOk result (λ v. v.items ≡ all_counted copy_in (replicate blocks 0) lines.now) }
 {
+    let mut copies = vec![in heap; 0; blocks as usize]?;
+    count_copies(&mut copies, lines);
+    Ok(copies)
+}
+
+// How often each number below 9 stands among numbers.
+fn count_numbers(numbers: &[u64]) -> [u64; 9]
+    ensures { result ≡ all_counted Some (replicate 9 0) numbers.now }
+{
+    let mut counts = [0; 9];
     for number in numbers {
-        count_at(counts, Some(*number as usize));
+        count_at(&mut counts, Some(*number as usize));
     }
+    counts
 }
 
 /// How many of the blocks 0 to `blocks` - 1 have 0, 1, .. 8 valid copies in a line table. Only want of
@@ -60,9 +71,6 @@ fn count_numbers(counts: &mut [u64], numbers: &[u64])
 pub fn blocks_by_copies(heap: Global, lines: &[Line], blocks: u32) -> Result<[u64; 9], AllocError>
     ensures { IfOk result (λ counts. counts ≡ blocks_by_copies lines.now blocks) }
 {
-    let mut copies = vec![in heap; 0; blocks as usize]?;
-    count_copies(&mut copies, lines);
-    let mut counts = [0; 9];
-    count_numbers(&mut counts, &copies);
-    Ok(counts)
+    let copies = copies_of_each(heap, lines, blocks)?;
+    Ok(count_numbers(&copies))
 }
