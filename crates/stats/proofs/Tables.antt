@@ -17,7 +17,7 @@ use Rattle.stats.specs.Tallying.{wrapped, one_more_at}
 abbrev pub as_one : Bool → ℕ
 as_one b = cond b 1 0
 
-place_low : (c : Command) → place_of c < 9
+pub place_low : (c : Command) → place_of c < 9
 place_low R = omega arith
 place_low (W word) = omega arith
 place_low (DW word) = omega arith

@@ -29,7 +29,7 @@ count_low test s = by_test (test s)
     by_test false = omega arith
 
 -- the steps counted in a table's cells are those of a processor and a command
-cells_of : (kind : Step → Bool) (steps : List Step)
+pub cells_of : (kind : Step → Bool) (steps : List Step)
     → map (λ k. count_by (is_placed (λ (s : Step). cell_of (kind s) s.request) k) steps) (range_with_len 0 72)
     ≡ by_command (λ p c. count_by (steps_with kind p c) steps)
 cells_of kind steps =

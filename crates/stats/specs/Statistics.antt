@@ -1,5 +1,5 @@
 -- The statistics of a run.
-use Rattle.std.specs.Prelude.{◌≡◌, ℕ, List}
+use Rattle.std.specs.Prelude.{◌≡◌, ℕ, ◌+◌, List, sum}
 use Rattle.protocol.specs.declared.measures.Measures.{Measures}
 use Rattle.cluster.specs.Board.{Board}
 use Rattle.text.specs.declared.step.Step.{Step}
@@ -8,6 +8,8 @@ use Rattle.run.specs.Running.{started, steps_of, end_of, summary_of}
 use Rattle.upkeep.specs.Counting.{row_of}
 use Rattle.stats.specs.declared.statistics.Counting.{Counting}
 use Rattle.stats.specs.declared.statistics.Statistics.{Statistics}
+use Rattle.stats.specs.declared.tally.Causes.{Causes}
+use Rattle.stats.specs.declared.tally.Tally.{Tally}
 use Rattle.stats.specs.Copies.{blocks_by_copies}
 use Rattle.stats.specs.Tallying.{tally_of, added}
 
@@ -27,3 +29,11 @@ statistics_of m records before =
 pub record Counts (before : Counting) (step : Step) (after : Counting) : Type 0 where
   pub costs : after.costs ≡ before.costs
   pub tally : after.tally ≡ added before.costs step before.tally
+
+-- the bus cycles of all causes
+abbrev pub all_cycles : Causes → ℕ
+all_cycles c = c.swap_in + c.transfer + c.swap_out + c.invalidation + c.lock_signal
+
+-- the steps of all processors and commands, however answered
+abbrev pub all_steps : Tally → ℕ
+all_steps t = sum t.done + sum t.waiting + sum t.refused

@@ -3,7 +3,7 @@ ghost use Rattle.std.specs.Prelude.{◌≡◌, IfOk, OnOk};
 ghost use Rattle.cluster.specs.Board.{board_of};
 ghost use Rattle.trace.specs.Traces.{records_of};
 ghost use Rattle.run.specs.Running.{started, steps_of, end_of};
-ghost use Rattle.stats.specs.Statistics.{statistics_of, Counts};
+ghost use Rattle.stats.specs.Statistics.{statistics_of, all_cycles, all_steps, Counts};
 
 use crate::copies::{blocks_by_copies, lines_by_state};
 use crate::tally::Tally;
@@ -64,6 +64,8 @@ pub fn run_statistics<M: Memory>(
         let before = board_of cluster.old lines.old locks.old (M.model memory.old) in
         let records = records_of trace.entry.records.now in
         IfOk result (λ s. s ≡ statistics_of m records before) }
+    ensures cycles { IfOk result (λ s. all_cycles s.tally.cycles ≡ s.summary.cycles) }
+    ensures steps { IfOk result (λ s. all_steps s.tally ≡ s.summary.steps) }
     ensures board { let before = board_of cluster.old lines.old locks.old (M.model memory.old) in
         let end = end_of cluster.old.geometry.measures before (records_of trace.entry.records.now) in
         let after = board_of cluster.new lines.new locks.new (M.model memory.new) in
