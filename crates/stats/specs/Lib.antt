@@ -1,0 +1,4 @@
+pub mod Events
+pub mod Tallying
+pub mod Copies
+pub mod Statistics
