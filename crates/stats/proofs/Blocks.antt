@@ -1,11 +1,11 @@
 -- Blocks by the number of their copies.
-use Rattle.std.proofs.Common.{◌≡◌, ℕ, ◌^◌, ◌<◌, ◌≤◌, Bool, true, false, cond, ◌&&◌, eqb, List, [], ◌∷◌, length, map, replicate, Some, None, Option, sym, refl, ap, ◌∙◌, arith}
+use Rattle.std.proofs.Common.{◌≡◌, ℕ, ◌^◌, ◌<◌, Bool, true, false, cond, ◌&&◌, eqb, List, [], ◌∷◌, length, map, replicate, Some, None, refl, ap, ◌∙◌, arith}
 use Rattle.std.specs.List.{count_by, range_with_len}
 use Rattle.std.proofs.lemmas.List.Sums.{sum_by-cons}
 use Rattle.std.proofs.lemmas.List.FromFn.{length-map-range_with_len}
 use Rattle.protocol.specs.declared.line.Line.{Line}
 use Rattle.protocol.specs.Entries.{valid}
-use Rattle.stats.specs.Copies.{is_copy_of, copies_of, blocks_with, blocks_by_copies, copy_in, all_counted}
+use Rattle.stats.specs.Copies.{is_copy_of, copies_of, blocks_by_copies, copy_in, all_counted}
 use Rattle.stats.specs.Events.{is_number}
 use Rattle.stats.proofs.Tables.{as_one, is_placed, all_counted_by}
 

@@ -1,5 +1,5 @@
 -- The bus cycles of an answer are those of its causes.
-use Rattle.std.proofs.Common.{◌≡◌, ℕ, zero, suc, ◌+◌, Bool, true, false, cond, ◌||◌, List, [], ◌∷◌, length, is_some, Some, None, Ok, Err, Option, Result, refl, ap, ◌∙◌, arith}
+use Rattle.std.proofs.Common.{◌≡◌, ℕ, ◌+◌, Bool, true, false, cond, ◌||◌, List, [], ◌∷◌, length, is_some, Some, None, Ok, Err, Option, Result, refl, arith}
 use Rattle.std.specs.List.{sum_by}
 use Rattle.std.proofs.lemmas.List.Sums.{sum_by-cons}
 use Rattle.protocol.specs.declared.answer.Answer.{Answer}
@@ -16,7 +16,7 @@ use Rattle.cluster.specs.declared.case.Case.{Case}
 use Rattle.cluster.specs.declared.supply.Supply.{Supply}
 use Rattle.cluster.specs.declared.ways.Taken.{Taken}
 use Rattle.cluster.specs.Board.{Board, Outcome, refusing, unless_err}
-use Rattle.cluster.specs.Doing.{lock_hit, supplied, victim_of, swapped_out, memory_after, supply_cost, invalidates, cycles_for}
+use Rattle.cluster.specs.Doing.{lock_hit, supplied, victim_of, swapped_out, memory_after, invalidates, cycles_for}
 use Rattle.cluster.specs.Finishing.{way_taken}
 use Rattle.cluster.specs.Making.{tables_fit}
 use Rattle.cluster.specs.Refusing.{case_of}

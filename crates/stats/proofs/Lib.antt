@@ -4,3 +4,4 @@ pub mod Blocks
 pub mod Along
 pub mod Costs
 pub mod Totals
+pub mod Entries

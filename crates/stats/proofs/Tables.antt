@@ -1,5 +1,5 @@
 -- Tables of counts.
-use Rattle.std.proofs.Common.{◌≡◌, ℕ, zero, suc, ◌+◌, ◌*◌, ◌/◌, ◌%◌, ◌^◌, ◌<◌, ◌≤◌, Bool, true, false, cond, ◌&&◌, eqb, ltb, ◌⊎◌, ◌≢◌, List, [], ◌∷◌, length, get_or, map, replicate, set, Some, None, Option, sym, refl, ap, ◌∙◌, inl, inr, arith, mod-eq_of_lt, length-set}
+use Rattle.std.proofs.Common.{◌≡◌, ℕ, suc, ◌+◌, ◌*◌, ◌/◌, ◌%◌, ◌^◌, ◌<◌, Bool, true, false, cond, ◌&&◌, eqb, ltb, ◌⊎◌, ◌≢◌, List, [], ◌∷◌, length, get_or, map, replicate, set, Some, None, Option, sym, refl, ap, ◌∙◌, inl, inr, arith, mod-eq_of_lt, length-set}
 use Rattle.std.proofs.lemmas.List.{get_or-set_other}
 use Rattle.std.proofs.lemmas.Grind.{get_or-set_at}
 use Rattle.std.proofs.lemmas.Bool.Decides.{eqb_tells, leb_tells, nat_tests}
@@ -37,14 +37,14 @@ same_cell p c k low = elim (eqb_tells (p * 9 + c) k) [
       let column : c ≡ k % 9 = omega (arith, is, low) in
       grind (arith, nat_tests)
   | inr other ↦ elim (eqb_tells p (k / 9)) [
-      | inl row ↦ elim (eqb_tells c (k % 9)) [
-          | inl column ↦
-              let r = row.1 in let d = column.1 in
-              let is : p * 9 + c ≡ k = omega (arith, r, d) in absurd (other.1 is)
-          | inr apart ↦ other.0 ∙ sym (λ i. row.0 i && apart.0 i)
-        ]
-      | inr apart ↦ other.0 ∙ sym (λ i. apart.0 i && eqb c (k % 9))
+    | inl row ↦ elim (eqb_tells c (k % 9)) [
+      | inl column ↦
+          let r = row.1 in let d = column.1 in
+          let is : p * 9 + c ≡ k = omega (arith, r, d) in absurd (other.1 is)
+      | inr apart ↦ other.0 ∙ sym (λ i. row.0 i && apart.0 i)
     ]
+    | inr apart ↦ other.0 ∙ sym (λ i. apart.0 i && eqb c (k % 9))
+  ]
 ]
 
 pub in_cell : (b : Bool) (q : Request) (k : ℕ) → k < 72

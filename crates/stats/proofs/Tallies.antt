@@ -1,5 +1,5 @@
 -- The numbers of all steps.
-use Rattle.std.proofs.Common.{◌≡◌, ℕ, zero, suc, ◌+◌, ◌*◌, ◌/◌, ◌%◌, ◌^◌, ◌<◌, ◌≤◌, Bool, true, false, cond, ◌&&◌, List, [], ◌∷◌, length, get_or, map, replicate, Some, None, Option, sym, refl, ap, ◌∙◌, arith, mod-eq_of_lt}
+use Rattle.std.proofs.Common.{◌≡◌, ℕ, ◌+◌, ◌*◌, ◌/◌, ◌%◌, ◌^◌, ◌<◌, ◌≤◌, Bool, true, false, cond, List, [], ◌∷◌, length, map, replicate, Option, refl, ap, ◌∙◌, arith, mod-eq_of_lt}
 use Rattle.std.specs.List.{fold, sum_by, count_by, range_with_len}
 use Rattle.std.proofs.lemmas.List.Sums.{sum_by-cons}
 use Rattle.std.proofs.lemmas.List.FromFn.{fill_by_all, length-map-range_with_len, get_or-map-range_with_len}
@@ -9,8 +9,8 @@ use Rattle.text.specs.declared.step.Step.{Step}
 use Rattle.stats.specs.declared.tally.Causes.{Causes}
 use Rattle.stats.specs.declared.tally.Tally.{Tally}
 use Rattle.stats.specs.Copies.{all_counted}
-use Rattle.stats.specs.Events.{is_number, cell_of, is_done, is_waiting, is_refused, is_refused_with, refusal_in, is_hit, is_miss, is_from_cache, is_from_memory, swaps_out, sends_f, sends_fi, sends_i, sends_lk, sends_ul, is_lr_hit, is_exclusive_lr_hit, is_release, is_unwaited_release}
-use Rattle.stats.specs.Tallying.{sends_lock_signal, cost_if, no_cycles, one_more_at, by_command, steps_with, by_refusal, causes_of, tally_of, no_steps, added}
+use Rattle.stats.specs.Events.{cell_of, is_done, is_waiting, is_refused, refusal_in, is_hit, is_miss, is_from_cache, is_from_memory, swaps_out, sends_f, sends_fi, sends_i, sends_lk, sends_ul, is_lr_hit, is_exclusive_lr_hit, is_release, is_unwaited_release}
+use Rattle.stats.specs.Tallying.{sends_lock_signal, cost_if, no_cycles, one_more_at, by_command, steps_with, causes_of, tally_of, no_steps, added}
 use Rattle.stats.proofs.Tables.{as_one, in_cell, is_placed, all_counted_by}
 
 sum_low : (amount : Step → ℕ) (most : ℕ) → ((s : Step) → amount s ≤ most) → (steps : List Step)

@@ -1,8 +1,8 @@
 -- Each step is answered done, WAIT, or refused.
-use Rattle.std.proofs.Common.{◌≡◌, ℕ, zero, suc, ◌+◌, ◌*◌, ◌/◌, ◌%◌, ◌<◌, ◌≤◌, Bool, true, false, cond, ◌&&◌, eqb, ltb, List, [], ◌∷◌, length, map, Some, None, Ok, Err, Option, Result, sym, refl, ap, ◌∙◌, inl, inr, arith}
+use Rattle.std.proofs.Common.{◌≡◌, ℕ, zero, suc, ◌+◌, ◌*◌, ◌<◌, ◌≤◌, Bool, true, false, cond, eqb, ltb, List, [], ◌∷◌, length, Some, None, Ok, Err, Option, Result, sym, refl, ap, ◌∙◌, inl, inr, arith}
 use Rattle.std.specs.List.{sum, sum_by, count_by, range_with_len}
 use Rattle.std.proofs.lemmas.List.Sums.{sum_by-cons, sum-map}
-use Rattle.std.proofs.lemmas.Bool.Decides.{eqb_tells, leb_tells, nat_tests}
+use Rattle.std.proofs.lemmas.Bool.Decides.{eqb_tells, nat_tests}
 use Rattle.protocol.specs.declared.answer.Answer.{Answer}
 use Rattle.protocol.specs.declared.answer.Answer.TheVariants.{Done, Wait}
 use Rattle.protocol.specs.declared.measures.Costs.{Costs}
@@ -75,12 +75,16 @@ module _ (kind : Step → Bool) where
     where
       p : ℕ
       p = s.request.processor
+
       low : ltb p 8 ≡ true
       low = grind (arith, nat_tests, served)
+
       cell : ℕ
       cell = p * 9 + place_of s.request.command
+
       there : cell < 72
       there = omega (arith, served, place_low s.request.command)
+
       by_kind : (b : Bool) → sum_by (λ k. as_one (is_number k (cell_of b s.request))) cells ≡ as_one b
       by_kind false = no_sum cells
       by_kind true =

@@ -2,3 +2,4 @@ pub mod Events
 pub mod Tallying
 pub mod Copies
 pub mod Statistics
+pub mod Naming

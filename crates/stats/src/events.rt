@@ -142,6 +142,9 @@ pub(crate) fn is_unwaited_release(step: &Step) -> bool
     is_release(step) && !sends_ul(step)
 }
 
+// How many commands there are.
+pub(crate) const COMMANDS: usize = 9;
+
 // The place of a command in the order R W DW RI RP RB LR UW U.
 pub(crate) fn place_of(command: Command) -> usize
     ensures place { result ≡ Events.place_of command }

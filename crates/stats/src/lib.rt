@@ -3,5 +3,6 @@
 
 pub mod copies;
 mod events;
+pub mod named;
 pub mod statistics;
 pub mod tally;

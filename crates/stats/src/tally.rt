@@ -107,10 +107,22 @@ impl Causes {
         ensures { self.new ≡ causes_added costs.now step.now self.old }
     {
         let signals = events::sends_ul(step) || events::is_waiting(step);
-        cost_if(&mut self.swap_in, costs.swap_in, events::is_from_memory(step));
-        cost_if(&mut self.transfer, costs.transfer, events::is_from_cache(step));
+        cost_if(
+            &mut self.swap_in,
+            costs.swap_in,
+            events::is_from_memory(step),
+        );
+        cost_if(
+            &mut self.transfer,
+            costs.transfer,
+            events::is_from_cache(step),
+        );
         cost_if(&mut self.swap_out, costs.swap_out, events::swaps_out(step));
-        cost_if(&mut self.invalidation, costs.invalidation, events::sends_i(step));
+        cost_if(
+            &mut self.invalidation,
+            costs.invalidation,
+            events::sends_i(step),
+        );
         cost_if(&mut self.lock_signal, costs.lock_signal, signals);
     }
 }
@@ -163,9 +175,15 @@ impl Tally {
         count_if(&mut self.sent_lk, events::sends_lk(step));
         count_if(&mut self.sent_ul, events::sends_ul(step));
         count_if(&mut self.lr_hits, events::is_lr_hit(step));
-        count_if(&mut self.exclusive_lr_hits, events::is_exclusive_lr_hit(step));
+        count_if(
+            &mut self.exclusive_lr_hits,
+            events::is_exclusive_lr_hit(step),
+        );
         count_if(&mut self.releases, events::is_release(step));
-        count_if(&mut self.unwaited_releases, events::is_unwaited_release(step));
+        count_if(
+            &mut self.unwaited_releases,
+            events::is_unwaited_release(step),
+        );
         self.cycles.add(costs, step);
     }
 }

@@ -1,4 +1,4 @@
-use Rattle.std.proofs.Common.{◌≡◌, Some, ap, ◌∙◌, replicate, arith}
+use Rattle.std.proofs.Common.{Some, ap, ◌∙◌, replicate, arith}
 use Rattle.stats.specs.Copies.{all_counted}
 use Rattle.stats.proofs.Blocks.{of_blocks}
 use Rattle.stats.proofs.copies.blocks_by_copies.Goals as goal

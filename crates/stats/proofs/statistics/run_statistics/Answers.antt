@@ -41,12 +41,12 @@ returns g c =
     let kinds = ap all_steps tally ∙ kinds_add_up m.costs steps served in
     record {
       statistics = λ i. record {
-      processors = (c.processors.ensures.value ∙ ap (λ x. x.measures.processors) geometry) i;
-      summary = told.answer i;
-      tally = tally i;
-      lines = (c.lines_by_state.ensures ∙ ap (λ b. row_of b.lines) told.board) i;
-      copies = (c.in_ok-blocks_by_copies.ensures ∙ (λ j. blocks_by_copies (told.board j).lines (blocks j))) i;
-    };
+        processors = (c.processors.ensures.value ∙ ap (λ x. x.measures.processors) geometry) i;
+        summary = told.answer i;
+        tally = tally i;
+        lines = (c.lines_by_state.ensures ∙ ap (λ b. row_of b.lines) told.board) i;
+        copies = (c.in_ok-blocks_by_copies.ensures ∙ (λ j. blocks_by_copies (told.board j).lines (blocks j))) i;
+      };
       cycles = causes ∙ sym (zero-add _) ∙ sym sums.cycles ∙ ap (λ s. s.cycles) (sym told.answer);
       steps = kinds ∙ sym (zero-add _) ∙ sym sums.steps ∙ ap (λ s. s.steps) (sym told.answer);
       board = told.board;
