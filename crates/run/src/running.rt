@@ -4,8 +4,8 @@ ghost use Rattle.trace.specs.Traces.{trace_of};
 ghost use Rattle.law.specs.Along.{LawAlong};
 ghost use Rattle.cluster.specs.Board.{board_of};
 ghost use Rattle.run.specs.Commands.{AsCommands, issued, steps_on};
-ghost use Rattle.run.specs.Kept.{records_for, state_of, to_go_on};
-ghost use Rattle.run.specs.Running.{due, ran, run_rule, Ended};
+ghost use Rattle.run.specs.Kept.{records_for, state_of, to_go_on, ran_on};
+ghost use Rattle.run.specs.Running.{due, run_rule, Ended};
 
 use crate::run::Run;
 use cluster::cluster::Cluster;
@@ -30,8 +30,7 @@ impl<'a> Run<'a> {
         ensures after { let before = board_of cluster.old
             lines.old locks.old (M.model memory.old) in
             let after = board_of cluster.new lines.new locks.new (M.model memory.new) in
-            state_of self.new after
-            ≡ ran cluster.old.geometry.measures (records_for self.old) (state_of self.old before) }
+            state_of self.new after ≡ ran_on cluster.old.geometry.measures self.old before }
         ensures ended { let after = board_of cluster.new lines.new locks.new (M.model memory.new) in
             let state = state_of self.new after in
             due cluster.old.geometry.measures (records_for self.old) state ≡ None }

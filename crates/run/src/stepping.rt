@@ -133,7 +133,6 @@ impl<'a> Run<'a> {
     }
 
     // By `is_some_and` of the record the check leaves open what the closure returns.
-    #[tactic(auto, using(crate::proofs::Turns::many, crate::proofs::Turns::request_there), unfolding(crate::specs::Kept::is_left))]
     fn unfinished(&self, index: usize) -> bool
         ensures { result ≡ is_left self.now index }
     {
