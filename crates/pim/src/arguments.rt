@@ -67,7 +67,7 @@ const CLUSTER: [NumberOption; 9] = [
     },
 ];
 
-fn number_option(heap: Global, option: &NumberOption) -> Arg<'static> {
+fn number_option<'a>(heap: Global, option: &NumberOption) -> Arg<'a> {
     Arg::new(heap, option.name)
         .long(option.name)
         .value_name(option.value)
@@ -77,10 +77,7 @@ fn number_option(heap: Global, option: &NumberOption) -> Arg<'static> {
 }
 
 // A subcommand that runs a trace on a cluster takes its measures and its memory.
-fn with_cluster(
-    heap: Global,
-    mut command: Command<'static>,
-) -> Result<Command<'static>, AllocError> {
+fn with_cluster<'a>(heap: Global, mut command: Command<'a>) -> Result<Command<'a>, AllocError> {
     for option in &CLUSTER {
         command = command.arg(number_option(heap, option))?;
     }
@@ -93,22 +90,22 @@ fn with_cluster(
     command.arg(dead)
 }
 
-fn file(heap: Global, name: &'static str, help: &'static str) -> Arg<'static> {
+fn file<'a>(heap: Global, name: &'static str, help: &'static str) -> Arg<'a> {
     Arg::new(heap, name).value_name(name).help(help)
 }
 
-fn flag(heap: Global, name: &'static str, help: &'static str) -> Arg<'static> {
+fn flag<'a>(heap: Global, name: &'static str, help: &'static str) -> Arg<'a> {
     Arg::new(heap, name)
         .long(name)
         .action(ArgAction::SetTrue)
         .help(help)
 }
 
-fn with_trace(
+fn with_trace<'a>(
     heap: Global,
     name: &'static str,
     about: &'static str,
-) -> Result<Command<'static>, AllocError> {
+) -> Result<Command<'a>, AllocError> {
     Command::new(heap, name).about(about).arg(file(
         heap,
         "TRACE",
@@ -116,7 +113,7 @@ fn with_trace(
     ))
 }
 
-fn run(heap: Global) -> Result<Command<'static>, AllocError> {
+fn run<'a>(heap: Global) -> Result<Command<'a>, AllocError> {
     let json = flag(heap, "json", "Write the numbers as one JSON object").conflicts_with("csv")?;
     let csv = flag(
         heap,
@@ -129,13 +126,13 @@ fn run(heap: Global) -> Result<Command<'static>, AllocError> {
     with_cluster(heap, command)
 }
 
-fn text(heap: Global) -> Result<Command<'static>, AllocError> {
+fn text<'a>(heap: Global) -> Result<Command<'a>, AllocError> {
     Command::new(heap, "trace")
         .about("Write the trace of a text")
         .arg(file(heap, "TEXT", "The text; standard input if no file is named"))
 }
 
-fn judge(heap: Global) -> Result<Command<'static>, AllocError> {
+fn judge<'a>(heap: Global) -> Result<Command<'a>, AllocError> {
     let command = Command::new(heap, "judge")
         .about("Compare the listing of a board with the model's")
         .arg(file(heap, "TRACE", "The trace that the board ran").required(true))?
@@ -144,7 +141,7 @@ fn judge(heap: Global) -> Result<Command<'static>, AllocError> {
 }
 
 /// The command line of `pim`.
-pub fn command(heap: Global) -> Result<Command<'static>, AllocError> {
+pub fn command<'a>(heap: Global) -> Result<Command<'a>, AllocError> {
     let list = with_trace(heap, "list", "Run a trace and list every step")?;
     let census = with_trace(
         heap,

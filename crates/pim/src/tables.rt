@@ -1,4 +1,6 @@
 // The statistics of a run as tables for people: each number under its name, with its part of a whole.
+ghost use Rattle.std.specs.Prelude.{◌<◌};
+
 use anyhow::Result;
 use stats::statistics::Statistics;
 use stats::tally::Tally;
@@ -47,7 +49,10 @@ fn put_run(out: &mut Vec<u8>, statistics: &Statistics) -> Result<()> {
 }
 
 // The answers that one processor's command got, if it was issued.
-fn put_command(out: &mut Vec<u8>, tally: &Tally, processor: usize, command: usize) -> Result<()> {
+fn put_command(out: &mut Vec<u8>, tally: &Tally, processor: usize, command: usize) -> Result<()>
+    requires processor { processor < 8 }
+    requires command { command < 9 }
+{
     let at = processor * 9 + command;
     let done = tally.done[at];
     let waiting = tally.waiting[at];
