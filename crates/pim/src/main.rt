@@ -32,7 +32,7 @@ fn main(rt: HostRuntime) -> Result<ExitCode> {
             Ok(ExitCode::from(status))
         }
         Err(error) => {
-            eprintln!(rt; "pim: {error}")?;
+            eprintln!(rt; "pim: {error:#}")?;
             Ok(ExitCode::from(3))
         }
     }
