@@ -576,7 +576,7 @@ def arguments():
 
 
 def main():
-    options = vars(arguments().parse_args())
+    options = vars(arguments().parse_intermixed_args())
     command, trace = options.pop("command"), options.pop("trace")
     options.pop("json")
     shape = as_csv if options.pop("csv") else as_json
