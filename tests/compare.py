@@ -13,7 +13,7 @@ The programs are crates/NAME/out/NAME unless given; --without leaves one out.
 
 At the first difference it prints the trace, made as short as it can be in a minute, the options
 and the first line that differs, and exits 1; --save writes the trace's bytes too. It exits 1 also
-where 300 traces or more do not meet every answer that `pim` can have. The same seed gives the same traces.
+where 500 traces or more do not meet every answer that `pim` can have. The same seed gives the same traces.
 """
 import argparse
 import collections
@@ -47,7 +47,7 @@ MOODS = {
 }
 POOLS = ("few blocks", "one column", "two columns", "wide")
 
-# What 300 traces must meet, so that a comparison that compares little fails.
+# What 500 traces must meet, so that a comparison that compares little fails.
 TO_MEET = ["OK", "WT", "04", "06", "07", "08", "09", "10", "11", "STUCK", "TRACE 12", "TRACE 13",
            "CLUSTER 01", "WORDS 02", "DEAD 01", "DRAINED 11"]
 
@@ -114,6 +114,7 @@ def spoil(rng, options):
             ("columns", rng.choice((0, 3, 12, 255, 257, 512))), ("ways", rng.choice((0, 5, 8))),
             ("lock_entries", rng.choice((0, 5, 9))), (rng.choice(model.COSTS), rng.choice((1001, 5000))),
             ("words", rng.choice((1, 2, 3, 1023, 4194302, 4194305, 4194308))),
+            ("words", rng.choice((6, 1022, 4194308))), ("dead", list(range(17))),
             ("dead", [rng.randrange(256) for _ in range(rng.choice((17, 18, 40)))])))
         options[name] = value
 
@@ -523,7 +524,7 @@ def compare(programs, options):
     print("%d traces, no difference; met %s" % (
         count, ", ".join("%s %d" % pair for pair in sorted(met.items()) if pair[1])))
     missing = [what for what in TO_MEET if not met[what]]
-    if "pim" in programs.binaries and options.count >= 300 and missing:
+    if "pim" in programs.binaries and options.count >= 500 and missing:
         print("the traces did not meet " + ", ".join(missing))
         return 1
     return 0
