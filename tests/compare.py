@@ -212,7 +212,8 @@ class Orderly:
             return self.lock()
         if kind < 0.14 and not self.held:  # a release of what it does not hold
             return self.rng.choice(model.RELEASING), self.address()
-        return self.rng.choice(("R", "R", "R", "R", "W", "W", "W", "DW", "DW", "RI", "RP", "RB")), self.address()
+        name = self.rng.choice(("R", "R", "R", "R", "W", "W", "W", "DW", "DW", "RI", "RP", "RB"))
+        return name, self.address()
 
 
 def orderly_records(rng, trial_size, processors, blocks, options):
@@ -286,7 +287,8 @@ def long_trial(rng, number, size):
         options.update(columns=256, ways=4, words=16384)
     options["words"] = max(options.get("words", 0), 64)
     blocks = random_blocks(rng, pool, options)
-    return Trial(processors, options, rng.randbytes(5), orderly_records(rng, size, processors, blocks, options))
+    records = orderly_records(rng, size, processors, blocks, options)
+    return Trial(processors, options, rng.randbytes(5), records)
 
 
 def limit_trials():
@@ -462,7 +464,7 @@ def shown_difference(wanted, found):
     for at in range(max(map(len, sides))):
         here = [side[at] if at < len(side) else "(nothing)" for side in sides]
         if here[0] != here[1]:
-            return "model, at %d:   %s\nprogram, at %d: %s" % (at + 1, here[0].rstrip(), at + 1, here[1].rstrip())
+            return "at %d\nmodel:   %s\nprogram: %s" % (at + 1, here[0].rstrip(), here[1].rstrip())
     return "the bytes differ, their text does not: %r, %r" % (wanted.output[:200], found.output[:200])
 
 

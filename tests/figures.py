@@ -23,7 +23,7 @@ import model
 
 ROOT = pathlib.Path(__file__).resolve().parent.parent
 PAGE = ROOT / "docs" / "FIGURES.md"
-TEXT = pathlib.Path(__file__).resolve().parent / "figures.txt"  # the page, with names in braces for its tables
+TEXT = ROOT / "tests" / "figures.txt"  # the page, with names in braces where its tables stand
 
 PROCESSORS, BLOCK = 8, 4
 STANDARD = {"columns": 256, "ways": 4, "words": 131072}
@@ -416,22 +416,22 @@ def full_bus():
 # On a bus that carries two words a cycle the four words of a block take two cycles less.
 TWO_WORDS = {"swap_in": 11, "transfer": 5, "swap_out": 3}
 
+# What is run: the commands, whether messages are sent in boxes or in buffers, and costs.
+Variant = collections.namedtuple("Variant", "commands boxes costs", defaults=(True, {}))
+ALL_SETS = {**HEAP_SET, **GOAL_SET, **CLAIM_SET}
 VARIANTS = {
-    "plain": {}, "heap": HEAP_SET, "goal": GOAL_SET, "communication": CLAIM_SET,
-    "all": {**HEAP_SET, **GOAL_SET, **CLAIM_SET}, "wide bus": {**HEAP_SET, **GOAL_SET, **CLAIM_SET},
-    "buffers": {**HEAP_SET, **GOAL_SET, **BUFFER_SET}, "heap of buffers": HEAP_SET}
+    "buffers": Variant({**HEAP_SET, **GOAL_SET, **BUFFER_SET}, False), "plain buffers": Variant(HEAP_SET, False),
+    "plain": Variant({}), "heap": Variant(HEAP_SET), "goal": Variant(GOAL_SET),
+    "communication": Variant(CLAIM_SET), "all": Variant(ALL_SETS), "wide bus": Variant(ALL_SETS, costs=TWO_WORDS)}
 
 
-def subtracted(numbers, before):
-    return {name: value - before[name] for name, value in numbers.items()}
-
-
-def run_variant(models, references, commands_used, costs):
+def run_variant(models, references, variant):
     """The statistics of the measured part: those of the whole less those of the part before it."""
     warm, measured = references
-    records, options = records_of(warm + measured, commands_used), {**STANDARD, **costs}
+    records, options = records_of(warm + measured, variant.commands), {**STANDARD, **variant.costs}
     before = models.run(records[:len(warm)], PROCESSORS, options)
-    numbers = subtracted(models.run(records, PROCESSORS, options), before)
+    whole = models.run(records, PROCESSORS, options)
+    numbers = {name: value - before[name] for name, value in whole.items()}
     numbers["processors"] = PROCESSORS
     numbers["direct"] = sum(name == "DW" and address % BLOCK == 0
                             for _, _, name, address, _ in records[len(warm):])
@@ -440,9 +440,8 @@ def run_variant(models, references, commands_used, costs):
 
 def run_variants(models):
     drawn = {boxes: draw_references(boxes) for boxes in (False, True)}
-    runs = {name: run_variant(models, drawn["buffers" not in name], used, TWO_WORDS if name == "wide bus" else {})
-            for name, used in VARIANTS.items()}
-    return drawn, runs
+    return drawn, {name: run_variant(models, drawn[variant.boxes], variant)
+                   for name, variant in VARIANTS.items()}
 
 
 def mix_rows(measured):
@@ -455,10 +454,6 @@ def mix_rows(measured):
         yield [area] + cells
 
 
-def share(part, whole):
-    return part / whole
-
-
 def directions(rows):
     """Fails where a drawn row does not go the published way; gives the rows without the test."""
     for *row, holds in rows:
@@ -468,10 +463,10 @@ def directions(rows):
 
 
 def miss_rows(runs):
-    one, plain = runs["buffers"], runs["heap of buffers"]
+    one, plain = runs["buffers"], runs["plain buffers"]
     done = one["hits"] + one["misses"]
-    ratio, less = share(one["misses"], done), share(one["misses"] - one["direct"], done)
-    more = share(plain["cycles"], one["cycles"]) - 1
+    ratio, less = one["misses"] / done, (one["misses"] - one["direct"]) / done
+    more = plain["cycles"] / one["cycles"] - 1
     yield "1987", "misses", "7.9 %", "%.1f %%" % (100 * ratio), "over the row below", ratio > less
     yield ("1987", "misses, with DW counted as a hit", "2.7 %", "%.1f %%" % (100 * less),
            "under half of the row above", less < ratio / 2)
@@ -484,7 +479,7 @@ PUBLISHED_SETS = (("heap", "0.55 to 0.65"), ("goal", "0.80 to 1.00"), ("communic
 
 
 def set_rows(runs):
-    relative = {name: share(runs[name]["cycles"], runs["plain"]["cycles"]) for name, _ in PUBLISHED_SETS}
+    relative = {name: runs[name]["cycles"] / runs["plain"]["cycles"] for name, _ in PUBLISHED_SETS}
     tests = {"heap": relative["heap"] < min(relative["goal"], relative["communication"]),
              "goal": relative["goal"] < 1, "communication": relative["communication"] < 1,
              "all": relative["all"] < min(relative[name] for name in ("heap", "goal", "communication"))}
@@ -497,15 +492,15 @@ def set_rows(runs):
 
 def other_rows(runs):
     plain, one = runs["plain"], runs["all"]
-    swap_ins = share(runs["heap"]["from_memory"], plain["from_memory"])
-    invalidations = share(runs["communication"]["bus.I"], plain["bus.I"])
-    hits, exclusive = share(one["lr_hits"], total(one, "LR")), share(one["lr_hits_exclusive"], total(one, "LR"))
-    alone = share(one["releases_unwaited"], one["releases"])
+    swap_ins = runs["heap"]["from_memory"] / plain["from_memory"]
+    invalidations = runs["communication"]["bus.I"] / plain["bus.I"]
+    hits, exclusive = [one[name] / total(one, "LR") for name in ("lr_hits", "lr_hits_exclusive")]
+    alone = one["releases_unwaited"] / one["releases"]
     yield ("1989", "swap-ins with DW for the heap, of those without", "0.10 to 0.55", "%.2f" % swap_ins,
            "under 1", swap_ins < 1)
     yield ("1989", "invalidations with RI, of those without", "0.30 to 0.40", "%.2f" % invalidations,
            "under 1", invalidations < 1)
-    wide = share(runs["wide bus"]["cycles"], one["cycles"])
+    wide = runs["wide bus"]["cycles"] / one["cycles"]
     yield ("1989", "cycles on a bus of two words, of those on a bus of one", "0.62 to 0.75", "%.2f" % wide,
            "under 1", wide < 1)
     yield "1989", "LR that find the block", "0.743 to 0.959", "%.3f" % hits, "over a half", hits > 0.5
@@ -526,11 +521,12 @@ def page(models):
     tables = {
         "PATTERNS": table(("what takes place", "commands", "published", "ours"), pattern_rows(models)),
         "STREAMS": table(("what takes place", "published", "ours"), stream_rows(models)),
-        "HEAP": table(("of the heap", "published", "published, a reduction", "ours, a reduction"), heap_rows()),
+        "HEAP": table(("of the heap", "published", "published, a reduction", "ours, a reduction"),
+                      heap_rows()),
         "FULL": "{:,}".format(full_bus()), "EACH": "%.1f" % (full_bus() / REDUCTIONS),
         "MIX": table(("area", "writes", "reads", "LR"), mix_rows(drawn[False][1])),
-        "DRAWN": table(("published in", "figure", "published", "ours", "direction that is checked"), directions(
-            row for rows in (miss_rows(runs), set_rows(runs), other_rows(runs)) for row in rows)),
+        "DRAWN": table(("published in", "figure", "published", "ours", "direction that is checked"),
+                       directions([*miss_rows(runs), *set_rows(runs), *other_rows(runs)])),
         "RECORDS": "{:,}".format(len(drawn[False][1])), "WARM": "{:,}".format(len(drawn[False][0])),
         "REDUCTIONS": "{:,}".format(PROCESSORS * REDUCTIONS_EACH)}
     text = TEXT.read_text(encoding="ascii")

@@ -94,6 +94,18 @@ class Refused(Exception):
     """Carries what refuses and its number, as `TRACE 12` or `TRACE 13 0000003`."""
 
 
+def lawful(measures):
+    """Whether a geometry has these measures."""
+    processors, columns, ways, lock_entries, *costs = measures
+    return (1 <= processors <= 8 and 1 <= columns <= 256 and columns & (columns - 1) == 0
+            and 1 <= ways <= 4 and 1 <= lock_entries <= 4 and all(0 <= cost <= 1000 for cost in costs))
+
+
+def fit(words):
+    """Whether a memory has so many words. An unfit one has no blocks."""
+    return words % BLOCK == 0 and words <= WORDS_LIMIT
+
+
 class Line:
     __slots__ = ("state", "block", "words", "way")
 
@@ -116,7 +128,8 @@ class Cluster:
     """
 
     def __init__(self, measures, words=WORDS, dead=()):
-        self.measures, self.blocks, self.dead = measures, words // BLOCK, frozenset(dead)
+        self.measures, self.dead = measures, frozenset(dead)
+        self.blocks = words // BLOCK if fit(words) else 0
         self.processors = range(measures.processors)
         self.memory = {}
         self.caches = [{} for _ in self.processors]
@@ -155,6 +168,8 @@ class Cluster:
 
     def early_refusal(self, p, command, address):
         """The refusals that do not ask the caches, in their order."""
+        if p not in self.processors:
+            return 3
         if address >= self.blocks * BLOCK:
             return 4
         if self.waits[p] is not None:
@@ -353,11 +368,9 @@ def read_trace(data, limit=None):
 
 def make_cluster(measures, words=WORDS, dead=()):
     """A new cluster and its memory, or what refuses it."""
-    _, columns, ways, lock_entries, *costs = measures
-    if not (1 <= columns <= 256 and columns & (columns - 1) == 0 and 1 <= ways <= 4
-            and 1 <= lock_entries <= 4 and all(0 <= cost <= 1000 for cost in costs)):
+    if not lawful(measures):
         raise Refused("CLUSTER 01")
-    if words % BLOCK or words > WORDS_LIMIT:
+    if not fit(words):
         raise Refused("WORDS 02")
     if len(dead) > DEAD_LIMIT:
         raise Refused("DEAD 01")
