@@ -420,9 +420,11 @@ TWO_WORDS = {"swap_in": 11, "transfer": 5, "swap_out": 3}
 Variant = collections.namedtuple("Variant", "commands boxes costs", defaults=(True, {}))
 ALL_SETS = {**HEAP_SET, **GOAL_SET, **CLAIM_SET}
 VARIANTS = {
-    "buffers": Variant({**HEAP_SET, **GOAL_SET, **BUFFER_SET}, False), "plain buffers": Variant(HEAP_SET, False),
+    "buffers": Variant({**HEAP_SET, **GOAL_SET, **BUFFER_SET}, False),
+    "plain buffers": Variant(HEAP_SET, False),
     "plain": Variant({}), "heap": Variant(HEAP_SET), "goal": Variant(GOAL_SET),
-    "communication": Variant(CLAIM_SET), "all": Variant(ALL_SETS), "wide bus": Variant(ALL_SETS, costs=TWO_WORDS)}
+    "communication": Variant(CLAIM_SET), "all": Variant(ALL_SETS),
+    "wide bus": Variant(ALL_SETS, costs=TWO_WORDS)}
 
 
 def run_variant(models, references, variant):
