@@ -105,5 +105,5 @@ pub fn perform(rt: &HostRuntime, matches: &ArgMatches) -> Result<Done> {
 }
 
 fn fault_of(bytes: &[u8]) -> &'static str {
-    ""
+    "no trace"
 }
