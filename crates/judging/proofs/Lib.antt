@@ -1,2 +1,4 @@
 pub mod Splits
 pub mod Compared
+pub mod Wrongs
+pub mod Stamps

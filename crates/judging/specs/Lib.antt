@@ -1,3 +1,5 @@
 pub mod Lines
 pub mod Fields
 pub mod Verdicts
+pub mod Rules
+pub mod Checks
