@@ -2,3 +2,4 @@ pub mod Splits
 pub mod Compared
 pub mod Wrongs
 pub mod Stamps
+pub mod Widths

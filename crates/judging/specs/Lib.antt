@@ -3,3 +3,4 @@ pub mod Fields
 pub mod Verdicts
 pub mod Rules
 pub mod Checks
+pub mod Judged

@@ -5,3 +5,4 @@ pub mod checking;
 pub mod comparing;
 pub mod faults;
 pub mod fields;
+pub mod judging;
