@@ -4,14 +4,16 @@ use crate::input::read_input;
 use crate::numbers::{as_csv, as_json};
 use crate::setup::Setup;
 use crate::tables::as_tables;
+use crate::telling::{read_trace, told, verdict};
 use anyhow::{Result, anyhow};
 use clap::ArgMatches;
 use counting::counting::count_trace;
+use judging::comparing::Verdict;
+use judging::judging::judge;
 use run::board::Board;
 use run::listing::list_trace;
 use stats::statistics::{Statistics, run_statistics};
 use std::alloc::Global;
-use trace::trace::Trace;
 use trace::writing::write_trace;
 use trace_text::reading::read_text;
 use trace_text::writing::write_text;
@@ -25,11 +27,6 @@ pub struct Done {
 
 fn good(bytes: Vec<u8>) -> Done {
     Done { bytes, status: 0 }
-}
-
-// The trace that the bytes are.
-fn read_trace(bytes: &[u8]) -> Result<Trace<'_>> {
-    Trace::read(bytes).map_err(|refusal| trace_refused(refusal, fault_of(bytes)))
 }
 
 fn list(heap: Global, options: &ArgMatches, input: &[u8]) -> Result<Vec<u8>> {
@@ -89,8 +86,23 @@ fn perform_one(heap: Global, name: &str, options: &ArgMatches, input: &[u8]) -> 
         "census" => census(heap, options, input),
         "text" => Ok(write_text(heap, &read_trace(input)?)?),
         "trace" => trace_of_text(heap, input),
+        "check" => told(heap, input),
         _ => Err(anyhow!("no such subcommand")),
     }
+}
+
+// A listing that differs is no error: it has a status of its own.
+fn judged(heap: Global, options: &ArgMatches, trace: &[u8], listing: &[u8]) -> Result<Done> {
+    let trace = read_trace(trace)?;
+    let mut setup = Setup::of(heap, options, trace.processors())?;
+    let geometry = setup.geometry;
+    let judgement = judge(heap, geometry, &mut setup.memory(), trace, listing)?;
+    let status = match judgement.verdict {
+        Verdict::Agree => 0,
+        Verdict::Differ(_) => 1,
+    };
+    let bytes = verdict(heap, &judgement, listing)?;
+    Ok(Done { bytes, status })
 }
 
 /// Does what the command line asks for.
@@ -101,9 +113,9 @@ pub fn perform(rt: &HostRuntime, matches: &ArgMatches) -> Result<Done> {
     };
     let file = if name == "trace" { "TEXT" } else { "TRACE" };
     let input = read_input(rt, options.get_str(file))?;
+    if name == "judge" {
+        let listing = read_input(rt, options.get_str("LISTING"))?;
+        return judged(heap, options, &input, &listing);
+    }
     Ok(good(perform_one(heap, name, options, &input)?))
-}
-
-fn fault_of(bytes: &[u8]) -> &'static str {
-    "no trace"
 }

@@ -9,6 +9,7 @@ mod input;
 mod numbers;
 mod setup;
 mod tables;
+mod telling;
 
 use anyhow::Result;
 use arguments::command;
