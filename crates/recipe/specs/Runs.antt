@@ -1,0 +1,1 @@
+-- A recipe's trace runs to its end with every step done.
