@@ -7,8 +7,12 @@ ghost use Rattle.recipe.specs.Recipes.{lawful, recorded, recipe_rule};
 use crate::drawing::{Bounds, Draw, MOST_DRAWS, MOST_RECORDS, next_value, put_draw};
 use protocol::command::{Command, Request};
 use protocol::refusal::Refusal;
-use trace::record::Record;
+use trace::record::{RECORD_SIZE, Record};
+use trace::trailer::TRAILER_SIZE;
 use trace::writing::write_trace;
+
+/// The most bytes that the trace of a recipe takes.
+pub const MOST_BYTES: usize = MOST_RECORDS * RECORD_SIZE + TRAILER_SIZE;
 
 // The most words of a memory.
 const MOST_WORDS: u32 = 4_194_304;
