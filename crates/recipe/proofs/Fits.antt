@@ -1,16 +1,15 @@
 -- The records of a recipe may all be put into a trace, so that only the room decides.
 use Prim.{Unit, tt}
-use Rattle.std.proofs.Common.{◌≡◌, ℕ, zero, suc, ◌+◌, ◌*◌, ◌/◌, ◌%◌, ◌<◌, ◌≤◌, Bool, true, false, cond, ltb, leb, List, [], ◌∷◌, ◌++◌, length, Some, None, Option, Ok, Err, sym, refl, ap, ◌∙◌, inl, inr, arith}
+use Rattle.std.proofs.Common.{◌≡◌, ℕ, zero, suc, ◌+◌, ◌*◌, ◌/◌, ◌%◌, ◌<◌, ◌≤◌, Bool, true, false, cond, ltb, leb, List, [], ◌∷◌, ◌++◌, length, Some, None, Ok, Err, Result, OnOk, sym, refl, ap, ◌∙◌, inl, inr, arith}
 use Rattle.std.proofs.Math.Nat.{mod-lt}
 use Rattle.std.proofs.lemmas.Bool.Decides.{leb_tells, nat_tests}
 use Rattle.std.proofs.lemmas.Bool.{and_parts, leb-true}
 use Rattle.std.proofs.lemmas.List.{append_assoc, append-nil}
 use Rattle.protocol.specs.declared.command.Command.TheVariants.{R, W, LR, UW}
-use Rattle.protocol.specs.declared.refusal.Refusal.{Refusal}
 use Rattle.protocol.specs.declared.refusal.Refusal.TheVariants as refusal
 use Rattle.trace.specs.declared.record.Record.{Record}
 use Rattle.trace.specs.Traces.{follows, when_some}
-use Rattle.trace.specs.Writing.{written, open_answer, first_refusal, admission, all_written, trace_bytes, write_rule, Closed}
+use Rattle.trace.specs.Writing.{written, first_refusal, all_written, trace_bytes, write_rule}
 use Rattle.recipe.specs.Draws.{drawn, kind_of, processor_of, record_for, records_for, records_drawn, records_of_recipe}
 use Rattle.recipe.specs.Recipes.{lawful, recorded, recipe_rule}
 
@@ -135,6 +134,12 @@ served draws words processors h =
       leb-true processors 8 last.1,
     )
 
+pub some_words : (draws words processors : ℕ) → lawful draws words processors ≡ true → 1 ≤ words
+some_words draws words processors h =
+    let four = and_parts _ (leb 1 processors) (and_parts _ (leb processors 8) h).0 in
+    let three = and_parts _ (leb words 4194304) four.0 in
+    leb-true 1 words (and_parts _ (leb 1 words) three.0).1
+
 -- what writing the records does is what the rule says
 pub loaded : (output : List ℕ) (start draws words processors : ℕ) (rs : List Record)
     → lawful draws words processors ≡ true → rs ≡ records_of_recipe start draws words processors
@@ -148,3 +153,7 @@ loaded output start draws words processors rs is_lawful same few =
     ∙ only_room output processors all some most (all_draws words processors draws start some)
     (omega (arith, many))
     ∙ sym (rw is_lawful refl)
+
+pub on_ok : {X E P : Type 0} (r : Result X E) → P → OnOk r P
+on_ok (Ok x) h = h
+on_ok (Err e) h = tt

@@ -6,7 +6,6 @@ use Rattle.std.proofs.lemmas.Bool.{false≢true, and_parts, eqb-true, eq-eqb, fa
 use Rattle.std.proofs.lemmas.Bool.Decides.{nat_tests}
 use Rattle.protocol.specs.declared.answer.Answer.{Answer}
 use Rattle.protocol.specs.declared.answer.Answer.TheVariants.{Done, Wait}
-use Rattle.protocol.specs.declared.command.Action.{Action}
 use Rattle.protocol.specs.declared.command.Action.TheVariants as action
 use Rattle.protocol.specs.declared.command.Command.{Command}
 use Rattle.protocol.specs.declared.command.Command.TheVariants.{R, W, DW, RI, RP, RB, LR, UW, U}
@@ -16,7 +15,6 @@ use Rattle.protocol.specs.declared.measures.Measures.{Measures}
 use Rattle.protocol.specs.declared.refusal.Refusal.{Refusal}
 use Rattle.protocol.specs.declared.state.State.{State}
 use Rattle.protocol.specs.declared.state.State.TheVariants.{I, S, SM, EC, EM}
-use Rattle.protocol.specs.declared.table.Effect.{Effect}
 use Rattle.protocol.specs.Entries.{valid}
 use Rattle.protocol.specs.Finding.{unused}
 use Rattle.protocol.specs.Lines.{blank_line, no_line}
@@ -30,13 +28,12 @@ use Rattle.cluster.specs.Making.{resting, blank_entry, tables_fit}
 use Rattle.cluster.specs.Refusing.{is_direct_write}
 use Rattle.cluster.specs.Rule.{command_rule}
 use Rattle.cluster.specs.Settling.{takes_lock, releases_lock}
-use Rattle.cluster.specs.Waiting.{awaited_in}
 use Rattle.trace.specs.declared.record.Record.{Record}
 use Rattle.upkeep.proofs.Counts.{has_columns}
 use Rattle.law.specs.Calls.{command}
 use Rattle.law.specs.Law.{locks_in}
 use Rattle.law.specs.Ledger.{Ledger, opened, command_fed, done_by}
-use Rattle.law.proofs.Doing.{Done as DoneBy, done}
+use Rattle.law.proofs.Doing.{done}
 use Rattle.law.proofs.Entries.{entry_found}
 use Rattle.law.proofs.Invariant.{at_in}
 use Rattle.law.proofs.Lawful.{Whole, next, new_settled}
@@ -45,7 +42,7 @@ use Rattle.law.proofs.LocksOn.{new_locks_hold}
 use Rattle.law.proofs.Lowest.{the_some, no_other}
 use Rattle.law.proofs.Shapes.{Shape, refused, waited, finished, shape, found, action_of}
 use Rattle.law.proofs.Windows.{seen-replicate}
-use Rattle.recipe.specs.Draws.{drawn, kind_of, processor_of, address_of, record_for, records_for, records_drawn}
+use Rattle.recipe.specs.Draws.{drawn, kind_of, record_for, records_for, records_drawn}
 use Rattle.recipe.specs.Runs.{is_done, AllDone, RunsThrough}
 use Rattle.recipe.proofs.Granted.{Granted, granted_done}
 use Rattle.recipe.proofs.Low.{Low, low_left, SameBlocks, blocks_kept}
@@ -57,12 +54,12 @@ pub record Held : Type 0 where
   pub processor : ℕ
   pub address : ℕ
 
-abbrev held_in : Option Held → ℕ → ℕ → Bool
+abbrev pub held_in : Option Held → ℕ → ℕ → Bool
 held_in None p a = false
 held_in (Some k) p a = eqb p k.processor && eqb a k.address
 
 -- what may follow: a read, a write or LR where no lock is held, and else the UW of that lock
-abbrev Then : Option Held → ℕ → ℕ → Command → (Option Held → Type 0) → Type 0
+abbrev pub Then : Option Held → ℕ → ℕ → Command → (Option Held → Type 0) → Type 0
 Then None p a R rest = rest None
 Then None p a (W word) rest = rest None
 Then None p a LR rest = rest (Some (record { processor = p; address = a }))
@@ -71,9 +68,9 @@ Then (Some k) p a (UW word) rest = (p ≡ k.processor) × (a ≡ k.address) × r
 Then (Some k) p a c rest = ⊥
 
 module _ (words processors : ℕ) where
-  record Inside (q : Request) : Type 0 where
-    known : q.processor < processors
-    below : q.address < words
+  pub record Inside (q : Request) : Type 0 where
+    pub known : q.processor < processors
+    pub below : q.address < words
 
   abbrev pub Suits : Option Held → List Record → Type 0
   Suits o [] = Unit {0}

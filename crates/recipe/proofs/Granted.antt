@@ -1,18 +1,14 @@
 -- A command that no test refuses, that meets no lock, and whose blocks memory grants, is done.
-use Rattle.std.proofs.Common.{◌≡◌, ℕ, ◌*◌, ◌/◌, Bool, true, false, cond, not, ◌&&◌, ◌||◌, leb, List, length, get_or, is_some, is_ok, Some, None, Option, Ok, Err, Result, sym, refl, ap, ◌∙◌}
-use Rattle.protocol.specs.declared.answer.Answer.{Answer}
-use Rattle.protocol.specs.declared.answer.Supplier.TheVariants.{Memory}
+use Rattle.std.proofs.Common.{◌≡◌, ℕ, ◌*◌, ◌/◌, Bool, true, false, cond, not, ◌&&◌, ◌||◌, leb, length, get_or, is_some, is_ok, Some, None, Option, Ok, Err, Result, refl, ap, ◌∙◌}
 use Rattle.protocol.specs.declared.command.Request.{Request}
-use Rattle.protocol.specs.declared.line.Line.{Line}
 use Rattle.protocol.specs.declared.measures.Measures.{Measures}
 use Rattle.protocol.specs.declared.refusal.Refusal.{Refusal}
 use Rattle.protocol.specs.declared.refusal.Refusal.TheVariants.{TableLength}
 use Rattle.protocol.specs.declared.table.Effect.{Effect}
 use Rattle.protocol.specs.Entries.{valid, modified}
-use Rattle.protocol.specs.Lines.{no_line}
 use Rattle.protocol.specs.StateTable.{cell_of}
-use Rattle.memory.specs.Meaning.{Mem, grants}
-use Rattle.cluster.specs.Board.{Board, Outcome, refusing, unless_err}
+use Rattle.memory.specs.Meaning.{grants}
+use Rattle.cluster.specs.Board.{Board, refusing, unless_err}
 use Rattle.cluster.specs.declared.case.Case.{Case}
 use Rattle.cluster.specs.Copies.{line_at}
 use Rattle.cluster.specs.declared.supply.Supply.{Supply}
@@ -32,8 +28,8 @@ use Rattle.recipe.specs.Runs.{is_done}
 -- a test that does not refuse
 pass : {X : Type 0} (t : Bool) (e : Refusal) (rest : Result X Refusal) (x : X) → t ≡ false
     → rest ≡ Ok x → cond t (Err e) rest ≡ Ok x
-pass true e rest x no h = absurd (cc)
-pass false e rest x no h = h
+pass true e rest x fails h = absurd (cc)
+pass false e rest x fails h = h
 
 -- memory has what each valid line's block needs, should it be swapped out
 abbrev pub Returnable : Board → Type 0

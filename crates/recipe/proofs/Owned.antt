@@ -1,5 +1,5 @@
 -- What a done LR leaves its processor: every copy of the block in its cache is EM or EC.
-use Rattle.std.proofs.Common.{◌≡◌, ℕ, ◌/◌, ◌<◌, Bool, true, false, cond, not, ◌&&◌, List, length, is_some, Some, None, Option, sym, refl, ap, ◌∙◌, subst, inl, inr}
+use Rattle.std.proofs.Common.{◌≡◌, ℕ, ◌/◌, ◌<◌, Bool, true, false, List, length, is_some, Some, None, Option, sym, refl, ap, ◌∙◌, subst, inl, inr}
 use Rattle.std.proofs.lemmas.Bool.Decides.{eqb_tells}
 use Rattle.protocol.specs.declared.answer.Answer.{Answer}
 use Rattle.protocol.specs.declared.answer.Supplier.{Supplier}
@@ -12,6 +12,7 @@ use Rattle.protocol.specs.declared.measures.Measures.{Measures}
 use Rattle.protocol.specs.declared.state.State.{State}
 use Rattle.protocol.specs.declared.state.State.TheVariants.{I, S, SM, EC, EM}
 use Rattle.protocol.specs.declared.table.Effect.{Effect}
+use Rattle.protocol.specs.Acting.{words_left}
 use Rattle.protocol.specs.Lines.{in_state}
 use Rattle.protocol.specs.Places.{line_count}
 use Rattle.protocol.specs.StateTable.{cell_of}
@@ -84,6 +85,16 @@ moved_own {m} {at} {after} {block} {k} moved i c owned = elim (eqb_tells i k) [
   | inr far ↦ absurd (far.1 (moved.mine i (before moved block i far.1 c) owned))
 ]
 
+tame_made : {m : Measures} {board : Board} {q : Request} {o : Outcome Answer} (d : Done m board q o)
+    → exclusive (made_state d) ≡ true → tame (made_line d).state ≡ true
+tame_made {q = q} d h =
+    tame_in
+    (record {
+      state = made_state d;
+      block = q.address / 4;
+      words = words_left q.command q.address d.supply.words;
+    }) (made_state d) h
+
 module _ {m : Measures} (some_columns : 0 < m.columns) (some_ways : 0 < m.ways) {board : Board}
     {q : Request} {l : Ledger} (was : Settled m board.lines board.memory.words l) {o : Outcome Answer}
     (d : Done m board q o) (taking : is_unlock (action_of m board q) ≡ false) where
@@ -134,4 +145,4 @@ module _ {m : Measures} (some_columns : 0 < m.columns) (some_ways : 0 < m.ways) 
       by_place None e = refl
       by_place (Some i) e =
           let at = found_at m some_columns o.board.lines fit homed q.processor block i d.known e in
-          ap (λ x. tame x.state) (own_left i at.copied at.owned) ∙ tame_in _ (made_state d) owns
+          ap (λ (x : Line). tame x.state) (own_left i at.copied at.owned) ∙ tame_made d owns

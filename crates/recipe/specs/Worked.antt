@@ -1,7 +1,6 @@
 -- A recipe worked by hand: the first number drawn from 1 is 1,015,568,748.
-use Rattle.std.specs.Prelude.{◌≡◌, ℕ, List, [], ◌∷◌}
+use Rattle.std.specs.Prelude.{◌≡◌, [], ◌∷◌}
 use Rattle.protocol.specs.declared.command.Command.TheVariants.{R}
-use Rattle.trace.specs.declared.record.Record.{Record}
 use Rattle.recipe.specs.Draws.{drawn, records_of_recipe}
 
 pub record WorkedRecipe : Type 0 where

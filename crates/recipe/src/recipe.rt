@@ -2,7 +2,8 @@
 ghost use Rattle.std.specs.Prelude.{◌≡◌, ◌≤◌, IfOk, OnOk, Ok, length, take};
 ghost use Rattle.trace.specs.Traces.{trace_of};
 ghost use Rattle.recipe.specs.Draws.{records_of_recipe};
-ghost use Rattle.recipe.specs.Recipes.{lawful, recorded, recipe_rule};
+ghost use Rattle.recipe.specs.Recipes.{lawful, recipe_rule};
+ghost use Rattle.recipe.specs.Runs.{RunsThrough};
 
 use crate::drawing::{Bounds, Draw, MOST_DRAWS, MOST_RECORDS, next_value, put_draw};
 use protocol::command::{Command, Request};
@@ -64,6 +65,9 @@ fn put_all(records: &mut [Record], start: u32, draws: u32, bounds: Bounds) -> us
 /// Refuses with 15 draws that are not 1 to 2,000, words that are not 1 to 4,194,304 and processors
 /// that are not 1 to 8, then with 14 an output that is too short. A refused call leaves the output
 /// as it was.
+///
+/// The run of the trace on a new cluster with these processors, over any memory of live blocks that
+/// has these words at least, has a step for each record, and every step is done.
 pub fn load_recipe(
     output: &mut [u8],
     start: u32,
@@ -76,6 +80,9 @@ pub fn load_recipe(
     ensures reads_back { let records = records_of_recipe start draws words processors in
         IfOk result (λ n. trace_of (take n output.new)
         ≡ Ok (record { processors = processors; records = records })) }
+    // whatever the geometry and the memory, no record is left, refused or made to wait
+    ensures runs { OnOk result
+        (RunsThrough words processors (records_of_recipe start draws words processors)) }
 {
     if !is_lawful(draws, words, processors) {
         return Err(Refusal::Recipe);

@@ -1,8 +1,8 @@
-use Rattle.std.proofs.Common.{◌≡◌, ℕ, ◌≤◌, true, List, length, sym, refl, ap, ◌∙◌, arith}
+use Rattle.std.proofs.Common.{◌≤◌, length, sym, ap, ◌∙◌, arith}
 use Rattle.std.proofs.lemmas.List.{length-take-le}
-use Rattle.trace.specs.Writing.{Closed, write_rule}
-use Rattle.recipe.specs.Recipes.{lawful, recipe_rule}
-use Rattle.recipe.proofs.Fits.{loaded}
+use Rattle.trace.specs.Writing.{Closed}
+use Rattle.recipe.proofs.Fits.{loaded, some_words, on_ok}
+use Rattle.recipe.proofs.Going.{runs_through}
 use Rattle.recipe.proofs.recipe.load_recipe.Goals as goal
 
 pub returns-clause-answer : goal.returns-clause-answer
@@ -26,3 +26,10 @@ returns-clause-output c =
     ∙ ap (λ (x : Closed). x.output)
     (loaded a.output.now a.start a.draws a.words a.processors _
     (sym c.is_lawful.ensures ∙ c.if-not-is_lawful.false) put.records (omega (arith, long)))
+
+pub returns-clause-runs : goal.returns-clause-runs
+returns-clause-runs c =
+    let a = c.args in
+    on_ok c.write_trace.result
+    (runs_through a.words a.processors a.draws 1 a.start
+    (some_words a.draws a.words a.processors (sym c.is_lawful.ensures ∙ c.if-not-is_lawful.false)))

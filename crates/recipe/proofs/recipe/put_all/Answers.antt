@@ -1,7 +1,4 @@
-use Rattle.std.proofs.Common.{◌≡◌, ℕ, suc, ◌+◌, ◌-◌, ◌++◌, List, [], length, take, sym, refl, ap, ◌∙◌, arith}
-use Rattle.std.proofs.lemmas.List.{append_assoc, append-nil}
-use Rattle.trace.specs.declared.record.Record.{Record}
-use Rattle.recipe.specs.Draws.{drawn, records_for, records_drawn}
+use Rattle.std.proofs.Common.{◌≡◌, suc, ◌+◌, ◌-◌, take, ◌∙◌, arith}
 use Rattle.recipe.proofs.Fits.{next_drawn, none_drawn}
 use Rattle.recipe.proofs.recipe.put_all.Goals as goal
 
