@@ -1,0 +1,441 @@
+#!/usr/bin/env python3
+"""Runs the program `pim` and compares what it writes, and how it ends.
+
+    python3 tests/run_pim.py [BINARY]
+
+BINARY is crates/pim/out/pim unless given; `rt run` in crates/pim makes it. Prints failures only,
+and exits 1 if there is one. What must be written comes from outside the program:
+
+- tests/pim/runs.txt has commands with their output, worked out by hand. docs/PIM.md has examples
+  in the same form; they are run too.
+- tests/pim/traces.txt has traces with what `pim check` tells of each, tests/pim/texts.txt texts with
+  what `pim trace` makes of each, both by hand.
+- tests/listings has the listings and censuses of stored traces.
+- tests/model.py gives the bytes of `list`, `run` and `census` where each option changes them, and of a
+  long trace.
+
+docs/FORMATS.md says where the fields of a listing stand; a byte of each is changed in turn for `judge`.
+"""
+import collections
+import pathlib
+import random
+import struct
+import subprocess
+import sys
+import tempfile
+
+sys.dont_write_bytecode = True
+import compare
+import make_cases
+import model
+
+TESTS = pathlib.Path(__file__).resolve().parent
+BINARY = TESTS.parent / "crates" / "pim" / "out" / "pim"
+LISTINGS = TESTS / "listings"
+PAGE = TESTS.parent / "docs" / "PIM.md"
+
+# The fields of a step's line and their places, counted from 1.
+FIELDS = (("step", 1, 7), ("processor", 9, 9), ("command", 11, 12), ("address", 14, 21),
+          ("answer", 23, 24), ("word", 26, 33), ("state found", 35, 36), ("state left", 38, 39),
+          ("cycles", 41, 44))
+SPACES = (8, 10, 13, 22, 25, 34, 37, 40)
+
+# Options that each change what the stored trace of 4,095 records gives.
+CHANGES = (
+    dict(columns=1), dict(columns=256), dict(ways=1), dict(ways=3), dict(lock_entries=1),
+    dict(lock_entries=4), dict(swap_in=1000), dict(transfer=0), dict(invalidation=999),
+    dict(swap_out=17), dict(lock_signal=1), dict(words=512), dict(words=0), dict(words=4194304),
+    dict(dead=[3]), dict(dead=[255, 17, 3]), dict(columns=2, ways=2, dead=[19, 35], words=2048))
+
+# What each subcommand's help must name.
+CLUSTER = ["--" + name.replace("_", "-") for name in model.Measures._fields[1:]] + ["--words", "--dead"]
+HELP = {"list": CLUSTER, "run": CLUSTER + ["--json", "--csv"], "census": CLUSTER, "text": [],
+        "trace": [], "judge": CLUSTER + ["TRACE", "LISTING"], "check": []}
+
+LONG_SEED, LONG_RECORDS = "pim", 100000
+
+Result = collections.namedtuple("Result", "status output error")
+Example = collections.namedtuple("Example", "number command lines status")
+
+
+def good(output):
+    return Result(0, output, b"")
+
+
+def refused(line):
+    return Result(3, b"", line.encode("ascii") + b"\n")
+
+
+class Floor:
+    """A folder with the program as `pim`, tests/ and the traces of tests/pim; and the failures."""
+
+    def __init__(self, binary, folder):
+        self.folder, self.failures = pathlib.Path(folder), 0
+        (self.folder / "pim").symlink_to(binary)
+        (self.folder / "tests").symlink_to(TESTS)
+
+    def store(self, name, data):
+        (self.folder / name).write_bytes(data)
+        return name
+
+    def run(self, *words, data=b""):
+        """What the program gives for these arguments and this standard input."""
+        done = subprocess.run(["./pim", *words], cwd=self.folder, input=data, capture_output=True,
+                              timeout=60)
+        return Result(done.returncode, done.stdout, done.stderr)
+
+    def shell(self, command):
+        """What a line of the shell gives."""
+        done = subprocess.run(["bash", "-c", command], cwd=self.folder, stdin=subprocess.DEVNULL,
+                              capture_output=True, timeout=60)
+        return Result(done.returncode, done.stdout, done.stderr)
+
+    def fail(self, name, what):
+        self.failures += 1
+        print("%s: %s" % (name, what))
+
+    def expect(self, name, wanted, found):
+        """Tells of the first thing in which a result is not what is wanted."""
+        for what, here, there in zip(Result._fields, wanted, found):
+            if here != there:
+                shown = "expected %r, found %r" % (here, there) if what == "status" else \
+                    difference(here, there)
+                return self.fail(name, "%s: %s" % (what, shown))
+        return None
+
+
+def difference(wanted, found):
+    """The first line in which two outputs differ, as text."""
+    sides = [text.splitlines(keepends=True) for text in (wanted, found)]
+    for at in range(max(map(len, sides))):
+        here = [lines[at] if at < len(lines) else b"" for lines in sides]
+        if here[0] != here[1]:
+            return "line %d: expected %r, found %r" % (at + 1, here[0][:120], here[1][:120])
+    return "no difference"
+
+
+# Commands with their output.
+
+
+def blocks(text):
+    """The indented lines of a page, each with its number, and None where other lines come between."""
+    for number, line in enumerate(text.splitlines(), 1):
+        if not line or line.startswith("    "):
+            yield number, line[4:]
+        else:
+            yield None
+
+
+def examples(text):
+    """The commands of a page, what stands below each, and the status that each ends with."""
+    found, lines = [], None
+    for each in blocks(text):
+        if each is None:
+            lines = None
+            continue
+        number, line = each
+        if line.startswith("$ "):
+            lines = []
+            found.append(Example(number, line[2:], lines, 0))
+        elif lines is not None:
+            lines.append(line)
+    return with_statuses(found)
+
+
+def with_statuses(found):
+    """The commands but `echo $?`, each with the status that this one tells of it."""
+    told = []
+    for example in found:
+        while example.lines and not example.lines[-1]:
+            example.lines.pop()
+        if example.command == "echo $?":
+            told[-1] = told[-1]._replace(status=int(example.lines[0]))
+        else:
+            told.append(example)
+    return told
+
+
+def check_example(floor, page, example):
+    """Runs a command and compares. A last line `...` stands for any lines more."""
+    name = "%s, line %d, %s" % (page, example.number, example.command)
+    found, lines = floor.shell(example.command), list(example.lines)
+    shown = found.output if example.status < 2 else found.error
+    if lines[-1:] == ["..."]:
+        lines.pop()
+        if len(shown.splitlines()) <= len(lines):
+            floor.fail(name, "no lines more")
+        shown = b"".join(shown.splitlines(keepends=True)[:len(lines)])
+    text = "".join(line + "\n" for line in lines).encode()
+    wanted = Result(example.status, *((text, b"") if example.status < 2 else (b"", text)))
+    cut = (shown, found.error) if example.status < 2 else (found.output, shown)
+    floor.expect(name, wanted, Result(found.status, *cut))
+
+
+def check_page(floor, path):
+    """Runs all commands of a page, in order."""
+    found = examples(path.read_text(encoding="utf-8"))
+    if not found:
+        floor.fail(path.name, "has no commands")
+    for example in found:
+        check_example(floor, path.name, example)
+
+
+# Traces and texts.
+
+
+class Text(make_cases.Case):
+    """A text, and behind `gives` the trace that it is or the number of its first wrong line."""
+
+    def __init__(self, name):
+        super().__init__(name)
+        self.text, self.gives = b"", None
+
+    def take(self, line):
+        if line == "cut":
+            self.text = self.text[:-1]
+        else:
+            mark, text = line[:1], line[1:]
+            if mark != "|":
+                raise ValueError("no line of a text")
+            self.text += text.encode("ascii").decode("unicode_escape").encode("latin-1") + b"\n"
+
+    def wanted(self):
+        word, *rest = self.expected[0].split()
+        if word == "line":
+            return refused("pim: TEXT line %s: not a line of a trace's text" % rest[0])
+        trace = make_cases.Case(self.name)
+        for line in self.expected:
+            trace.take(line)
+        return good(trace.trace())
+
+
+def check_traces(floor):
+    """`pim check` on each trace; and the trace is refused, or read, by the other subcommands too."""
+    for case in read(TESTS / "pim" / "traces.txt", make_cases.Case):
+        file, first = floor.store(case.name + ".trace", case.trace()), case.expected[0]
+        wanted = refused(first) if first.startswith("pim:") else good(case.listing())
+        floor.expect("check " + file, wanted, floor.run("check", file))
+        floor.expect("check < " + file, wanted, floor.run("check", data=case.trace()))
+        if wanted.status:
+            for name in ("list", "run", "census", "text"):
+                floor.expect("%s %s" % (name, file), wanted, floor.run(name, file))
+            floor.expect("judge " + file, wanted, floor.run("judge", file, file))
+
+
+def check_texts(floor):
+    """`pim trace` on each text."""
+    for case in read(TESTS / "pim" / "texts.txt", Text):
+        file = floor.store(case.name + ".txt", case.text)
+        floor.expect("trace " + file, case.wanted(), floor.run("trace", file))
+        floor.expect("trace < " + file, case.wanted(), floor.run("trace", data=case.text))
+
+
+def read(path, kind):
+    return make_cases.read_cases(path.read_text(encoding="ascii"), kind, path.name)
+
+
+def text_of(processors, records):
+    """The text of a trace, of records as tests/compare.py draws them."""
+    lines = ["trace version 1 processors %d" % processors]
+    for stamp, p, code, _, address, data in records:
+        name = model.COMMANDS[code]
+        word = " %08X" % data if name in model.WRITING else ""
+        lines.append("%d %d %s %08X%s" % (stamp, p, name, address, word))
+    return "".join(line + "\n" for line in lines).encode("ascii")
+
+
+def check_too_many(floor):
+    """A text of as many records as a trace has at most, and of one more; a longer one behind it."""
+    head, line = b"trace version 1 processors 1\n", b"0 0 U 0\n"
+    most = model.RECORDS_LIMIT
+    record = struct.pack("<IBBHII", 0, 0, 8, 0, 0, 0)
+    trace = record * most + struct.pack("<IBBH", 16 * most, 1, 1, 0)
+    floor.expect("trace of the most records", good(trace), floor.run("trace", data=head + line * most))
+    wrong = refused("pim: TEXT line %d: not a line of a trace's text" % (most + 2))
+    floor.expect("trace of one record more", wrong, floor.run("trace", data=head + line * (most + 1)))
+
+
+# Stored listings and censuses.
+
+
+def check_stored(floor):
+    """`list` and `census` without options, from a file and through a pipe."""
+    stored = sorted(LISTINGS.glob("*.trace"))
+    if not stored:
+        floor.fail("tests/listings", "has no traces")
+    for path in stored:
+        for name, suffix in (("list", ".listing"), ("census", ".census")):
+            wanted = path.with_suffix(suffix).read_bytes()
+            data, what = path.read_bytes(), "%s %s" % (name, path.name)
+            found = floor.run(name, str(path)), floor.run(name, data=data)
+            if wanted.startswith(b"TRACE "):
+                check_refused(floor, what, wanted.decode("ascii").rstrip("\n"), found)
+                continue
+            for result in found:
+                floor.expect(what, good(wanted), result)
+
+
+def check_refused(floor, name, line, found):
+    """One line on standard error that begins with what the listing program prints of the trace."""
+    for result in found:
+        start = ("pim: " + line + ": ").encode("ascii")
+        if not result.error.startswith(start) or result.error.count(b"\n") != 1:
+            floor.fail(name, "error: expected %r.., found %r" % (start, result.error))
+        floor.expect(name, Result(3, b"", result.error), result)
+
+
+def check_long_note(floor):
+    """A note that the listing program does not take."""
+    trace = (LISTINGS / "worked-example.trace").read_bytes()
+    wanted = good((LISTINGS / "worked-example.listing").read_bytes())
+    for size in (65536, 1000001):
+        file = floor.store("long-note.trace", bytes(range(250)) * (size // 250) + bytes(size % 250) + trace)
+        told = "processors 2\nrecords 4\nnote bytes %d\nfirst stamp 1\nlast stamp 4\n" % size
+        floor.expect("list a note of %d bytes" % size, wanted, floor.run("list", file))
+        floor.expect("check a note of %d bytes" % size, good(told.encode()), floor.run("check", file))
+
+
+# The model.
+
+
+def check_options(floor):
+    """Each option changes the output as it changes the model's."""
+    path = LISTINGS / "most-records.trace"
+    data, met = path.read_bytes(), set()
+    plain = outputs(data, {})
+    for options in ({},) + CHANGES:
+        words, wanted = compare.option_words(options), outputs(data, options)
+        if options and wanted["list"] == plain["list"] and wanted["run --json"] == plain["run --json"]:
+            floor.fail(" ".join(words), "changes nothing")
+        for call, output in wanted.items():
+            found = floor.run(*call.split(), *words, str(path))
+            floor.expect(" ".join([call] + words), good(output), found)
+        met |= set(words)
+    for option in set(CLUSTER) - met:
+        floor.fail(option, "is not tried")
+
+
+def outputs(data, options):
+    """What each call of pim must write, by the model."""
+    run = model.pim_run(data, options)
+    listing, numbers = model.listing_of(run), model.statistics(run)
+    return {"list": listing, "run --json": model.as_json(numbers), "run --csv": model.as_csv(numbers),
+            "census": model.census_of(run)}
+
+
+def check_long(floor):
+    """A long trace that does not get stuck: its listing, its statistics and its text."""
+    trial = compare.long_trial(random.Random(LONG_SEED), 0, LONG_RECORDS)
+    file, words = floor.store("long.trace", trial.trace()), compare.option_words(trial.options)
+    wanted = outputs(trial.trace(), trial.options)
+    steps = wanted["list"].count(b"\n") - 1
+    if steps < LONG_RECORDS or b"STUCK" in wanted["list"]:
+        floor.fail("the long trace", "gets stuck")
+    for call in ("list", "run --json"):
+        floor.expect("%s long.trace" % call, good(wanted[call]), floor.run(*call.split(), *words, file))
+    listing = floor.store("long.listing", wanted["list"])
+    agree = good(b"agree: %d steps\n" % steps)
+    floor.expect("judge long.trace", agree, floor.run("judge", *words, file, listing))
+    text = text_of(trial.processors, trial.records)
+    floor.expect("text long.trace", good(text), floor.run("text", file))
+    floor.expect("trace long.txt", good(trial.but(note=b"").trace()), floor.run("trace", data=text))
+
+
+# Judging.
+
+
+def judged(floor, name, trace, ours, theirs, line, field):
+    """`judge` names the first line that differs, and its field."""
+    file = floor.store("theirs.listing", theirs)
+    sides = [side.split(b"\n") for side in (ours, theirs)]
+    shown = [lines[line - 1] if line <= side.count(b"\n") + (not side.endswith(b"\n") and side != b"")
+             else b"(no line)" for side, lines in zip((ours, theirs), sides)]
+    text = b"differ: line %d, %s\nours:   %s\ntheirs: %s\n" % (line, field.encode(), *shown)
+    found = floor.run("judge", str(LISTINGS / (trace + ".trace")), file)
+    floor.expect("judge, " + name, Result(1, text, b""), found)
+
+
+def changed(data, place):
+    """The bytes with one changed that is at a place."""
+    other = b"1" if data[place:place + 1] != b"1" else b"2"
+    return data[:place] + other + data[place + 1:]
+
+
+def check_fields(floor):
+    """A byte of each field of a step's line; of a space between them; of TOTAL and STUCK."""
+    ours = (LISTINGS / "stuck.listing").read_bytes()
+    lines = ours.splitlines(keepends=True)
+    total, stuck = len(lines) - 1, len(lines)
+    if not lines[-1].startswith(b"STUCK ") or total < 5:
+        floor.fail("stuck.listing", "has other lines than this test takes it to have")
+    starts = [sum(map(len, lines[:at])) for at in range(len(lines))]
+    changes = [(3, place, name) for name, first, last in FIELDS for place in range(first, last + 1)]
+    changes += [(total - 1, last, name) for name, _, last in FIELDS]
+    changes += [(1, place, "line") for place in SPACES] + [(3, 45, "line")]
+    changes += [(total, place, "total") for place in (7, 18)] + [(total, 1, "line")]
+    changes += [(stuck, place, "stuck") for place in (7, 13)] + [(stuck, 5, "line")]
+    for line, place, field in changes:
+        theirs = changed(ours, starts[line - 1] + place - 1)
+        judged(floor, "line %d place %d" % (line, place), "stuck", ours, theirs, line, field)
+
+
+def check_lines(floor):
+    """Lines that are missing, come too often, or differ twice; an end that is missing."""
+    ours = (LISTINGS / "worked-example.listing").read_bytes()
+    lines, name = ours.splitlines(keepends=True), "worked-example"
+    join = b"".join
+    judged(floor, "no lines", name, ours, b"", 1, "line")
+    judged(floor, "last line missing", name, ours, join(lines[:5]), 6, "line")
+    judged(floor, "first line missing", name, ours, join(lines[1:]), 1, "step")
+    judged(floor, "last step missing", name, ours, join(lines[:4] + lines[5:]), 5, "line")
+    judged(floor, "an empty line behind", name, ours, ours + b"\n", 7, "line")
+    judged(floor, "a line more", name, ours, ours + b"STUCK 0000001\n", 7, "line")
+    judged(floor, "a byte more", name, ours, ours + b"x", 7, "line")
+    judged(floor, "a step twice", name, ours, join(lines[:2] + lines[1:]), 3, "step")
+    judged(floor, "end missing", name, ours, ours[:-1], 6, "end")
+    judged(floor, "byte 13 at the ends", name, ours, ours.replace(b"\n", b"\r\n"), 1, "line")
+    judged(floor, "a TRACE line", name, ours, b"TRACE 12\n", 1, "line")
+    twice = changed(changed(ours, 2 * 45 + 35), 2 * 45 + 15)
+    judged(floor, "two fields of a line", name, ours, twice, 3, "address")
+    twice = changed(changed(ours, 3 * 45 + 2), 1 * 45 + 43)
+    judged(floor, "two lines", name, ours, twice, 2, "cycles")
+
+
+# Help.
+
+
+def check_help(floor):
+    """Each help is on standard output and names the options."""
+    helps = {("--help",): list(HELP), ("-h",): list(HELP), ("help",): list(HELP)}
+    for name, options in HELP.items():
+        for call in ((name, "--help"), (name, "-h"), ("help", name)):
+            helps[call] = ["Usage: pim " + name] + options
+    for call, names in helps.items():
+        found, what = floor.run(*call), "pim " + " ".join(call)
+        floor.expect(what, Result(0, found.output, b""), found)
+        for each in names:
+            if each.encode() not in found.output:
+                floor.fail(what, "does not name " + each)
+
+
+CHECKS = (check_traces, check_texts, check_too_many, check_stored, check_long_note, check_options,
+          check_fields, check_lines, check_help, check_long)
+
+
+def main():
+    if len(sys.argv) > 2:
+        sys.exit(__doc__)
+    binary = pathlib.Path(sys.argv[1] if sys.argv[1:] else BINARY).resolve()
+    if not binary.is_file():
+        sys.exit("%s is not there; `rt run` in crates/pim makes it" % binary)
+    with tempfile.TemporaryDirectory() as folder:
+        floor = Floor(binary, folder)
+        for check in CHECKS:
+            check(floor)
+        for page in (TESTS / "pim" / "runs.txt", PAGE):
+            check_page(floor, page)
+    return 1 if floor.failures else 0
+
+
+if __name__ == "__main__":
+    sys.exit(main())
