@@ -19,6 +19,7 @@ docs/FORMATS.md says where the fields of a listing stand; a byte of each is chan
 import collections
 import pathlib
 import random
+import shutil
 import struct
 import subprocess
 import sys
@@ -51,6 +52,9 @@ CHANGES = (
 CLUSTER = ["--" + name.replace("_", "-") for name in model.Measures._fields[1:]] + ["--words", "--dead"]
 HELP = {"list": CLUSTER, "run": CLUSTER + ["--json", "--csv"], "census": CLUSTER, "text": [],
         "trace": [], "judge": CLUSTER + ["TRACE", "LISTING"], "check": []}
+
+# What a page may use where the machine has it.
+OPTIONAL = ("jq",)
 
 LONG_SEED, LONG_RECORDS = "pim", 100000
 
@@ -137,6 +141,8 @@ def examples(text):
         if line.startswith("$ "):
             lines = []
             found.append(Example(number, line[2:], lines, 0))
+        elif lines == [] and found[-1].command.endswith("\\"):
+            found[-1] = found[-1]._replace(command=found[-1].command[:-1] + line.lstrip())
         elif lines is not None:
             lines.append(line)
     return with_statuses(found)
@@ -177,7 +183,9 @@ def check_page(floor, path):
     if not found:
         floor.fail(path.name, "has no commands")
     for example in found:
-        check_example(floor, path.name, example)
+        name = example.command.split()[0]
+        if name not in OPTIONAL or shutil.which(name):
+            check_example(floor, path.name, example)
 
 
 # Traces and texts.
@@ -210,7 +218,7 @@ class Text(make_cases.Case):
 
 
 def check_traces(floor):
-    """`pim check` on each trace; and the trace is refused, or read, by the other subcommands too."""
+    """`pim check` on each trace. One that is refused is refused by the other subcommands too."""
     for case in read(TESTS / "pim" / "traces.txt", make_cases.Case):
         file, first = floor.store(case.name + ".trace", case.trace()), case.expected[0]
         wanted = refused(first) if first.startswith("pim:") else good(case.listing())
@@ -245,7 +253,7 @@ def text_of(processors, records):
 
 
 def check_too_many(floor):
-    """A text of as many records as a trace has at most, and of one more; a longer one behind it."""
+    """A text of as many records as a trace has at most, and of one more."""
     head, line = b"trace version 1 processors 1\n", b"0 0 U 0\n"
     most = model.RECORDS_LIMIT
     record = struct.pack("<IBBHII", 0, 0, 8, 0, 0, 0)
