@@ -12,7 +12,7 @@ and exits 1 if there is one. What must be written comes from outside the program
   what `pim trace` makes of each, both by hand.
 - tests/listings has the listings and censuses of stored traces.
 - tests/model.py gives the bytes of `list`, `run` and `census` where each option changes them, and of a
-  long trace.
+  long trace. The tables of `run` are made here from the model's numbers, as docs/PIM.md shows them.
 
 docs/FORMATS.md says where the fields of a listing stand; a byte of each is changed in turn for `judge`.
 """
@@ -328,7 +328,60 @@ def outputs(data, options):
     run = model.pim_run(data, options)
     listing, numbers = model.listing_of(run), model.statistics(run)
     return {"list": listing, "run --json": model.as_json(numbers), "run --csv": model.as_csv(numbers),
-            "census": model.census_of(run)}
+            "run": tables(numbers), "census": model.census_of(run)}
+
+
+# The tables of the statistics, as docs/PIM.md shows them.
+
+
+def row(name, value, whole):
+    """A number that is a part of a whole, with its percentage, rounded to tenths, halves up."""
+    tenths = (2000 * value + whole) // (2 * whole) if whole else 0
+    return "  %-22s%12d%7d.%d %%" % (name, value, tenths // 10, tenths % 10)
+
+
+def table(title, whole, parts):
+    """A number, and below it its parts."""
+    return ["", "%-24s%12d" % (title, whole)] + [row(name, value, whole) for name, value in parts]
+
+
+def command_table(numbers):
+    """The answers of each command that a processor issued, and of all."""
+    kinds, lines = ("done", "waiting", "refused"), []
+    sums = dict.fromkeys(kinds, 0)
+    for p in range(numbers["processors"]):
+        for name in model.COMMANDS:
+            counts = [numbers["%s.%d.%s" % (kind, p, name)] for kind in kinds]
+            if any(counts):
+                lines.append("  %d %-20s%12d%12d%12d" % (p, name, *counts))
+            for kind, count in zip(kinds, counts):
+                sums[kind] += count
+    head = "%-24s%11s%12s%12s" % ("processor and command", *kinds)
+    return sums, ["", head] + lines + ["  %-22s%12d%12d%12d" % ("all", *sums.values())]
+
+
+def tables(numbers):
+    """What `run` writes without --json and --csv."""
+    def parts(prefix, names):
+        return [(name, numbers[prefix + name]) for name in names]
+
+    sums, lines = command_table(numbers)
+    lines[:0] = ["%-24s%12d" % (name, numbers[name]) for name in ("processors", "steps", "cycles", "left")]
+    events = ["hits", "misses", "from_cache", "from_memory", "swap_outs"]
+    events += ["bus." + signal for signal in ("F", "FI", "I", "LK", "UL")]
+    lines += table("steps done", sums["done"], parts("", events))
+    causes = ("swap_in", "transfer", "swap_out", "invalidation", "lock_signal")
+    lines += table("bus cycles", numbers["cycles"], parts("cycles.", causes))
+    locks = sum(numbers["done.%d.LR" % p] for p in range(numbers["processors"]))
+    lines += table("LR done", locks, parts("", ("lr_hits", "lr_hits_exclusive")))
+    lines += table("releases", numbers["releases"], parts("", ("releases_unwaited",)))
+    refusals = parts("refusals.", ["%02d" % number for number in range(3, 12)])
+    lines += table("steps refused", sums["refused"], [each for each in refusals if each[1]])
+    total = sum(numbers["lines." + state] for state in model.STATES)
+    lines += table("lines at the end", total, parts("lines.", model.STATES))
+    copies = parts("copies.", [str(n) for n in range(9)])
+    lines += table("blocks by copies", sum(count for _, count in copies), copies)
+    return "".join(line + "\n" for line in lines).encode("ascii")
 
 
 def check_long(floor):
@@ -339,7 +392,7 @@ def check_long(floor):
     steps = wanted["list"].count(b"\n") - 1
     if steps < LONG_RECORDS or b"STUCK" in wanted["list"]:
         floor.fail("the long trace", "gets stuck")
-    for call in ("list", "run --json"):
+    for call in ("list", "run", "run --json"):
         floor.expect("%s long.trace" % call, good(wanted[call]), floor.run(*call.split(), *words, file))
     listing = floor.store("long.listing", wanted["list"])
     agree = good(b"agree: %d steps\n" % steps)
