@@ -70,27 +70,27 @@ def refused(line):
     return Result(3, b"", line.encode("ascii") + b"\n")
 
 
-class Floor:
+class Folder:
     """A folder with the program as `pim`, tests/ and the traces of tests/pim; and the failures."""
 
-    def __init__(self, binary, folder):
-        self.folder, self.failures = pathlib.Path(folder), 0
-        (self.folder / "pim").symlink_to(binary)
-        (self.folder / "tests").symlink_to(TESTS)
+    def __init__(self, binary, path):
+        self.path, self.failures = pathlib.Path(path), 0
+        (self.path / "pim").symlink_to(binary)
+        (self.path / "tests").symlink_to(TESTS)
 
     def store(self, name, data):
-        (self.folder / name).write_bytes(data)
+        (self.path / name).write_bytes(data)
         return name
 
     def run(self, *words, data=b""):
         """What the program gives for these arguments and this standard input."""
-        done = subprocess.run(["./pim", *words], cwd=self.folder, input=data, capture_output=True,
+        done = subprocess.run(["./pim", *words], cwd=self.path, input=data, capture_output=True,
                               timeout=60)
         return Result(done.returncode, done.stdout, done.stderr)
 
     def shell(self, command):
         """What a line of the shell gives."""
-        done = subprocess.run(["bash", "-c", command], cwd=self.folder, stdin=subprocess.DEVNULL,
+        done = subprocess.run(["bash", "-c", command], cwd=self.path, stdin=subprocess.DEVNULL,
                               capture_output=True, timeout=60)
         return Result(done.returncode, done.stdout, done.stderr)
 
@@ -161,31 +161,31 @@ def with_statuses(found):
     return told
 
 
-def check_example(floor, page, example):
+def check_example(folder, page, example):
     """Runs a command and compares. A last line `...` stands for any lines more."""
     name = "%s, line %d, %s" % (page, example.number, example.command)
-    found, lines = floor.shell(example.command), list(example.lines)
+    found, lines = folder.shell(example.command), list(example.lines)
     shown = found.output if example.status < 2 else found.error
     if lines[-1:] == ["..."]:
         lines.pop()
         if len(shown.splitlines()) <= len(lines):
-            floor.fail(name, "no lines more")
+            folder.fail(name, "no lines more")
         shown = b"".join(shown.splitlines(keepends=True)[:len(lines)])
     text = "".join(line + "\n" for line in lines).encode()
     wanted = Result(example.status, *((text, b"") if example.status < 2 else (b"", text)))
     cut = (shown, found.error) if example.status < 2 else (found.output, shown)
-    floor.expect(name, wanted, Result(found.status, *cut))
+    folder.expect(name, wanted, Result(found.status, *cut))
 
 
-def check_page(floor, path):
+def check_page(folder, path):
     """Runs all commands of a page, in order."""
     found = examples(path.read_text(encoding="utf-8"))
     if not found:
-        floor.fail(path.name, "has no commands")
+        folder.fail(path.name, "has no commands")
     for example in found:
         name = example.command.split()[0]
         if name not in OPTIONAL or shutil.which(name):
-            check_example(floor, path.name, example)
+            check_example(folder, path.name, example)
 
 
 # Traces and texts.
@@ -196,7 +196,7 @@ class Text(make_cases.Case):
 
     def __init__(self, name):
         super().__init__(name)
-        self.text, self.gives = b"", None
+        self.text = b""
 
     def take(self, line):
         if line == "cut":
@@ -217,25 +217,25 @@ class Text(make_cases.Case):
         return good(trace.trace())
 
 
-def check_traces(floor):
+def check_traces(folder):
     """`pim check` on each trace. One that is refused is refused by the other subcommands too."""
     for case in read(TESTS / "pim" / "traces.txt", make_cases.Case):
-        file, first = floor.store(case.name + ".trace", case.trace()), case.expected[0]
+        file, first = folder.store(case.name + ".trace", case.trace()), case.expected[0]
         wanted = refused(first) if first.startswith("pim:") else good(case.listing())
-        floor.expect("check " + file, wanted, floor.run("check", file))
-        floor.expect("check < " + file, wanted, floor.run("check", data=case.trace()))
+        folder.expect("check " + file, wanted, folder.run("check", file))
+        folder.expect("check < " + file, wanted, folder.run("check", data=case.trace()))
         if wanted.status:
             for name in ("list", "run", "census", "text"):
-                floor.expect("%s %s" % (name, file), wanted, floor.run(name, file))
-            floor.expect("judge " + file, wanted, floor.run("judge", file, file))
+                folder.expect("%s %s" % (name, file), wanted, folder.run(name, file))
+            folder.expect("judge " + file, wanted, folder.run("judge", file, file))
 
 
-def check_texts(floor):
+def check_texts(folder):
     """`pim trace` on each text."""
     for case in read(TESTS / "pim" / "texts.txt", Text):
-        file = floor.store(case.name + ".txt", case.text)
-        floor.expect("trace " + file, case.wanted(), floor.run("trace", file))
-        floor.expect("trace < " + file, case.wanted(), floor.run("trace", data=case.text))
+        file = folder.store(case.name + ".txt", case.text)
+        folder.expect("trace " + file, case.wanted(), folder.run("trace", file))
+        folder.expect("trace < " + file, case.wanted(), folder.run("trace", data=case.text))
 
 
 def read(path, kind):
@@ -252,61 +252,61 @@ def text_of(processors, records):
     return "".join(line + "\n" for line in lines).encode("ascii")
 
 
-def check_too_many(floor):
+def check_too_many(folder):
     """A text of as many records as a trace has at most, and of one more."""
     head, line = b"trace version 1 processors 1\n", b"0 0 U 0\n"
     most = model.RECORDS_LIMIT
     record = struct.pack("<IBBHII", 0, 0, 8, 0, 0, 0)
     trace = record * most + struct.pack("<IBBH", 16 * most, 1, 1, 0)
-    floor.expect("trace of the most records", good(trace), floor.run("trace", data=head + line * most))
+    folder.expect("trace of the most records", good(trace), folder.run("trace", data=head + line * most))
     wrong = refused("pim: TEXT line %d: not a line of a trace's text" % (most + 2))
-    floor.expect("trace of one record more", wrong, floor.run("trace", data=head + line * (most + 1)))
+    folder.expect("trace of one record more", wrong, folder.run("trace", data=head + line * (most + 1)))
 
 
 # Stored listings and censuses.
 
 
-def check_stored(floor):
+def check_stored(folder):
     """`list` and `census` without options, from a file and through a pipe."""
     stored = sorted(LISTINGS.glob("*.trace"))
     if not stored:
-        floor.fail("tests/listings", "has no traces")
+        folder.fail("tests/listings", "has no traces")
     for path in stored:
         for name, suffix in (("list", ".listing"), ("census", ".census")):
             wanted = path.with_suffix(suffix).read_bytes()
             data, what = path.read_bytes(), "%s %s" % (name, path.name)
-            found = floor.run(name, str(path)), floor.run(name, data=data)
+            found = folder.run(name, str(path)), folder.run(name, data=data)
             if wanted.startswith(b"TRACE "):
-                check_refused(floor, what, wanted.decode("ascii").rstrip("\n"), found)
+                check_refused(folder, what, wanted.decode("ascii").rstrip("\n"), found)
                 continue
             for result in found:
-                floor.expect(what, good(wanted), result)
+                folder.expect(what, good(wanted), result)
 
 
-def check_refused(floor, name, line, found):
+def check_refused(folder, name, line, found):
     """One line on standard error that begins with what the listing program prints of the trace."""
     for result in found:
         start = ("pim: " + line + ": ").encode("ascii")
         if not result.error.startswith(start) or result.error.count(b"\n") != 1:
-            floor.fail(name, "error: expected %r.., found %r" % (start, result.error))
-        floor.expect(name, Result(3, b"", result.error), result)
+            folder.fail(name, "error: expected %r.., found %r" % (start, result.error))
+        folder.expect(name, Result(3, b"", result.error), result)
 
 
-def check_long_note(floor):
+def check_long_note(folder):
     """A note that the listing program does not take."""
     trace = (LISTINGS / "worked-example.trace").read_bytes()
     wanted = good((LISTINGS / "worked-example.listing").read_bytes())
     for size in (65536, 1000001):
-        file = floor.store("long-note.trace", bytes(range(250)) * (size // 250) + bytes(size % 250) + trace)
+        file = folder.store("long-note.trace", bytes(range(250)) * (size // 250) + bytes(size % 250) + trace)
         told = "processors 2\nrecords 4\nnote bytes %d\nfirst stamp 1\nlast stamp 4\n" % size
-        floor.expect("list a note of %d bytes" % size, wanted, floor.run("list", file))
-        floor.expect("check a note of %d bytes" % size, good(told.encode()), floor.run("check", file))
+        folder.expect("list a note of %d bytes" % size, wanted, folder.run("list", file))
+        folder.expect("check a note of %d bytes" % size, good(told.encode()), folder.run("check", file))
 
 
 # The model.
 
 
-def check_options(floor):
+def check_options(folder):
     """Each option changes the output as it changes the model's."""
     path = LISTINGS / "most-records.trace"
     data, met = path.read_bytes(), set()
@@ -314,13 +314,13 @@ def check_options(floor):
     for options in ({},) + CHANGES:
         words, wanted = compare.option_words(options), outputs(data, options)
         if options and wanted["list"] == plain["list"] and wanted["run --json"] == plain["run --json"]:
-            floor.fail(" ".join(words), "changes nothing")
+            folder.fail(" ".join(words), "changes nothing")
         for call, output in wanted.items():
-            found = floor.run(*call.split(), *words, str(path))
-            floor.expect(" ".join([call] + words), good(output), found)
+            found = folder.run(*call.split(), *words, str(path))
+            folder.expect(" ".join([call] + words), good(output), found)
         met |= set(words)
     for option in set(CLUSTER) - met:
-        floor.fail(option, "is not tried")
+        folder.fail(option, "is not tried")
 
 
 def outputs(data, options):
@@ -384,36 +384,36 @@ def tables(numbers):
     return "".join(line + "\n" for line in lines).encode("ascii")
 
 
-def check_long(floor):
+def check_long(folder):
     """A long trace that does not get stuck: its listing, its statistics and its text."""
     trial = compare.long_trial(random.Random(LONG_SEED), 0, LONG_RECORDS)
-    file, words = floor.store("long.trace", trial.trace()), compare.option_words(trial.options)
+    file, words = folder.store("long.trace", trial.trace()), compare.option_words(trial.options)
     wanted = outputs(trial.trace(), trial.options)
     steps = wanted["list"].count(b"\n") - 1
     if steps < LONG_RECORDS or b"STUCK" in wanted["list"]:
-        floor.fail("the long trace", "gets stuck")
+        folder.fail("the long trace", "gets stuck")
     for call in ("list", "run", "run --json"):
-        floor.expect("%s long.trace" % call, good(wanted[call]), floor.run(*call.split(), *words, file))
-    listing = floor.store("long.listing", wanted["list"])
+        folder.expect("%s long.trace" % call, good(wanted[call]), folder.run(*call.split(), *words, file))
+    listing = folder.store("long.listing", wanted["list"])
     agree = good(b"agree: %d steps\n" % steps)
-    floor.expect("judge long.trace", agree, floor.run("judge", *words, file, listing))
+    folder.expect("judge long.trace", agree, folder.run("judge", *words, file, listing))
     text = text_of(trial.processors, trial.records)
-    floor.expect("text long.trace", good(text), floor.run("text", file))
-    floor.expect("trace long.txt", good(trial.but(note=b"").trace()), floor.run("trace", data=text))
+    folder.expect("text long.trace", good(text), folder.run("text", file))
+    folder.expect("trace long.txt", good(trial.but(note=b"").trace()), folder.run("trace", data=text))
 
 
 # Judging.
 
 
-def judged(floor, name, trace, ours, theirs, line, field):
+def judged(folder, name, trace, ours, theirs, line, field):
     """`judge` names the first line that differs, and its field."""
-    file = floor.store("theirs.listing", theirs)
+    file = folder.store("theirs.listing", theirs)
     sides = [side.split(b"\n") for side in (ours, theirs)]
     shown = [lines[line - 1] if line <= side.count(b"\n") + (not side.endswith(b"\n") and side != b"")
              else b"(no line)" for side, lines in zip((ours, theirs), sides)]
     text = b"differ: line %d, %s\nours:   %s\ntheirs: %s\n" % (line, field.encode(), *shown)
-    found = floor.run("judge", str(LISTINGS / (trace + ".trace")), file)
-    floor.expect("judge, " + name, Result(1, text, b""), found)
+    found = folder.run("judge", str(LISTINGS / (trace + ".trace")), file)
+    folder.expect("judge, " + name, Result(1, text, b""), found)
 
 
 def changed(data, place):
@@ -422,13 +422,13 @@ def changed(data, place):
     return data[:place] + other + data[place + 1:]
 
 
-def check_fields(floor):
+def check_fields(folder):
     """A byte of each field of a step's line; of a space between them; of TOTAL and STUCK."""
     ours = (LISTINGS / "stuck.listing").read_bytes()
     lines = ours.splitlines(keepends=True)
     total, stuck = len(lines) - 1, len(lines)
     if not lines[-1].startswith(b"STUCK ") or total < 5:
-        floor.fail("stuck.listing", "has other lines than this test takes it to have")
+        folder.fail("stuck.listing", "has other lines than this test takes it to have")
     starts = [sum(map(len, lines[:at])) for at in range(len(lines))]
     changes = [(3, place, name) for name, first, last in FIELDS for place in range(first, last + 1)]
     changes += [(total - 1, last, name) for name, _, last in FIELDS]
@@ -437,46 +437,46 @@ def check_fields(floor):
     changes += [(stuck, place, "stuck") for place in (7, 13)] + [(stuck, 5, "line")]
     for line, place, field in changes:
         theirs = changed(ours, starts[line - 1] + place - 1)
-        judged(floor, "line %d place %d" % (line, place), "stuck", ours, theirs, line, field)
+        judged(folder, "line %d place %d" % (line, place), "stuck", ours, theirs, line, field)
 
 
-def check_lines(floor):
+def check_lines(folder):
     """Lines that are missing, come too often, or differ twice; an end that is missing."""
     ours = (LISTINGS / "worked-example.listing").read_bytes()
     lines, name = ours.splitlines(keepends=True), "worked-example"
     join = b"".join
-    judged(floor, "no lines", name, ours, b"", 1, "line")
-    judged(floor, "last line missing", name, ours, join(lines[:5]), 6, "line")
-    judged(floor, "first line missing", name, ours, join(lines[1:]), 1, "step")
-    judged(floor, "last step missing", name, ours, join(lines[:4] + lines[5:]), 5, "line")
-    judged(floor, "an empty line behind", name, ours, ours + b"\n", 7, "line")
-    judged(floor, "a line more", name, ours, ours + b"STUCK 0000001\n", 7, "line")
-    judged(floor, "a byte more", name, ours, ours + b"x", 7, "line")
-    judged(floor, "a step twice", name, ours, join(lines[:2] + lines[1:]), 3, "step")
-    judged(floor, "end missing", name, ours, ours[:-1], 6, "end")
-    judged(floor, "byte 13 at the ends", name, ours, ours.replace(b"\n", b"\r\n"), 1, "line")
-    judged(floor, "a TRACE line", name, ours, b"TRACE 12\n", 1, "line")
+    judged(folder, "no lines", name, ours, b"", 1, "line")
+    judged(folder, "last line missing", name, ours, join(lines[:5]), 6, "line")
+    judged(folder, "first line missing", name, ours, join(lines[1:]), 1, "step")
+    judged(folder, "last step missing", name, ours, join(lines[:4] + lines[5:]), 5, "line")
+    judged(folder, "an empty line behind", name, ours, ours + b"\n", 7, "line")
+    judged(folder, "a line more", name, ours, ours + b"STUCK 0000001\n", 7, "line")
+    judged(folder, "a byte more", name, ours, ours + b"x", 7, "line")
+    judged(folder, "a step twice", name, ours, join(lines[:2] + lines[1:]), 3, "step")
+    judged(folder, "end missing", name, ours, ours[:-1], 6, "end")
+    judged(folder, "byte 13 at the ends", name, ours, ours.replace(b"\n", b"\r\n"), 1, "line")
+    judged(folder, "a TRACE line", name, ours, b"TRACE 12\n", 1, "line")
     twice = changed(changed(ours, 2 * 45 + 35), 2 * 45 + 15)
-    judged(floor, "two fields of a line", name, ours, twice, 3, "address")
+    judged(folder, "two fields of a line", name, ours, twice, 3, "address")
     twice = changed(changed(ours, 3 * 45 + 2), 1 * 45 + 43)
-    judged(floor, "two lines", name, ours, twice, 2, "cycles")
+    judged(folder, "two lines", name, ours, twice, 2, "cycles")
 
 
 # Help.
 
 
-def check_help(floor):
+def check_help(folder):
     """Each help is on standard output and names the options."""
     helps = {("--help",): list(HELP), ("-h",): list(HELP), ("help",): list(HELP)}
     for name, options in HELP.items():
         for call in ((name, "--help"), (name, "-h"), ("help", name)):
             helps[call] = ["Usage: pim " + name] + options
     for call, names in helps.items():
-        found, what = floor.run(*call), "pim " + " ".join(call)
-        floor.expect(what, Result(0, found.output, b""), found)
+        found, what = folder.run(*call), "pim " + " ".join(call)
+        folder.expect(what, Result(0, found.output, b""), found)
         for each in names:
             if each.encode() not in found.output:
-                floor.fail(what, "does not name " + each)
+                folder.fail(what, "does not name " + each)
 
 
 CHECKS = (check_traces, check_texts, check_too_many, check_stored, check_long_note, check_options,
@@ -489,13 +489,13 @@ def main():
     binary = pathlib.Path(sys.argv[1] if sys.argv[1:] else BINARY).resolve()
     if not binary.is_file():
         sys.exit("%s is not there; `rt run` in crates/pim makes it" % binary)
-    with tempfile.TemporaryDirectory() as folder:
-        floor = Floor(binary, folder)
+    with tempfile.TemporaryDirectory() as path:
+        folder = Folder(binary, path)
         for check in CHECKS:
-            check(floor)
+            check(folder)
         for page in (TESTS / "pim" / "runs.txt", PAGE):
-            check_page(floor, page)
-    return 1 if floor.failures else 0
+            check_page(folder, page)
+    return 1 if folder.failures else 0
 
 
 if __name__ == "__main__":
