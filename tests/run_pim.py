@@ -356,7 +356,7 @@ def command_table(numbers):
                 lines.append("  %d %-20s%12d%12d%12d" % (p, name, *counts))
             for kind, count in zip(kinds, counts):
                 sums[kind] += count
-    head = "%-24s%11s%12s%12s" % ("processor and command", *kinds)
+    head = "%-24s%12s%12s%12s" % ("processor and command", *kinds)
     return sums, ["", head] + lines + ["  %-22s%12d%12d%12d" % ("all", *sums.values())]
 
 
