@@ -1,7 +1,7 @@
 // The steps of a run, counted by what they did.
-ghost use Rattle.std.specs.Prelude.{◌≡◌, ℕ, ◌<◌, ◌+◌, ◌%◌, ◌^◌, if◌then◌else◌, IfSome};
+ghost use Rattle.std.specs.Prelude.{◌≡◌, ◌+◌, if◌then◌else◌};
 ghost use Rattle.stats.specs.Events.{cell_of};
-ghost use Rattle.stats.specs.Tallying.{wrapped, one_more_at, no_cycles, no_steps, causes_added, added};
+ghost use Rattle.stats.specs.Tallying.{wrapped, one_more_at, no_steps, causes_added, added};
 
 use crate::events;
 use protocol::measures::Costs;
@@ -20,8 +20,8 @@ pub struct Causes {
 /// Steps counted by what they did.
 #[derive(Clone, Copy)]
 pub struct Tally {
-    /// Steps answered done, for each of eight processors and nine commands: ordered by processor, then
-    /// by command as R W DW RI RP RB LR UW U.
+    /// Steps answered done, for each of eight processors and nine commands: ordered by processor,
+    /// then by command as R W DW RI RP RB LR UW U.
     pub done: [u64; 72],
     /// Steps answered WAIT, in the same order.
     pub waiting: [u64; 72],
@@ -155,8 +155,8 @@ impl Tally {
         }
     }
 
-    /// Adds a step of a run whose bus costs are given. Numbers past 2^64 - 1 begin again at 0: no run
-    /// has so many steps.
+    /// Adds a step of a run whose bus costs are given. Numbers past 2^64 - 1 begin again at 0: no
+    /// run has so many steps.
     pub fn add(&mut self, costs: &Costs, step: &Step)
         ensures { self.new ≡ added costs.now step.now self.old }
     {

@@ -194,8 +194,8 @@ fn the_worked_example(rt: HostRuntime) -> Result<(), Fail> {
     Ok(())
 }
 
-// Every kind of refusal that a run can meet, invalidations, swap-outs, and releases that nobody waited
-// for: one line and one lock entry a processor, four blocks, of which block 3 is dead.
+// Every kind of refusal that a run can meet, invalidations, swap-outs, and releases that nobody
+// waited for: one line and one lock entry a processor, four blocks, of which block 3 is dead.
 const REFUSED: [Asked; 21] = [
     (0, Command::R, 0),
     (1, Command::R, 0),

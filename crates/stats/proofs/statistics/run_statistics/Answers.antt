@@ -45,7 +45,8 @@ returns g c =
         summary = told.answer i;
         tally = tally i;
         lines = (c.lines_by_state.ensures ∙ ap (λ b. row_of b.lines) told.board) i;
-        copies = (c.in_ok-blocks_by_copies.ensures ∙ (λ j. blocks_by_copies (told.board j).lines (blocks j))) i;
+        copies = (c.in_ok-blocks_by_copies.ensures
+            ∙ (λ j. blocks_by_copies (told.board j).lines (blocks j))) i;
       };
       cycles = causes ∙ sym (zero-add _) ∙ sym sums.cycles ∙ ap (λ s. s.cycles) (sym told.answer);
       steps = kinds ∙ sym (zero-add _) ∙ sym sums.steps ∙ ap (λ s. s.steps) (sym told.answer);
