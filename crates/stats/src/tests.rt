@@ -17,7 +17,7 @@ use trace::trace::Trace;
 type Asked = (u8, Command, u32);
 
 // Records of so many processors and their trailer.
-fn trace_bytes(heap: Global, processors: u8, asked: &[Asked]) -> Result<Vec<u8>, AllocError> {
+fn trace_bytes(heap: Global, processors: u8, asked: &[Asked]) -> Result<Vec<u8>, Fail> {
     let mut bytes = Vec::new(heap);
     for (processor, command, address) in asked {
         let request = Request {
@@ -27,9 +27,9 @@ fn trace_bytes(heap: Global, processors: u8, asked: &[Asked]) -> Result<Vec<u8>,
         };
         bytes.extend_from_slice(&encode(Record { stamp: 0, request }))?;
     }
-    let size = bytes.len() as u16;
-    let [low, high] = size.to_le_bytes();
-    bytes.extend_from_slice(&[low, high, 0, 0, 1, processors, 0, 0])?;
+    let size = u32::try_from(bytes.len()).ok().ok_or("size")?;
+    bytes.extend_from_slice(&size.to_le_bytes())?;
+    bytes.extend_from_slice(&[1, processors, 0, 0])?;
     Ok(bytes)
 }
 
