@@ -7,13 +7,18 @@ use crate::events;
 use protocol::measures::Costs;
 use text::step::Step;
 
-/// Bus cycles by their cause. A lock signal is the UL of a done step or a WAIT.
+/// Bus cycles by what caused them.
 #[derive(Clone, Copy)]
 pub struct Causes {
+    /// Blocks that memory supplied.
     pub swap_in: u64,
+    /// Blocks that another cache supplied.
     pub transfer: u64,
+    /// Blocks swapped out.
     pub swap_out: u64,
+    /// Bus commands I.
     pub invalidation: u64,
+    /// UL of done steps, and WAIT answers.
     pub lock_signal: u64,
 }
 
@@ -95,6 +100,7 @@ fn cost_if(cycles: &mut u64, cost: u32, costs: bool)
 }
 
 impl Causes {
+    /// No bus cycles.
     pub const NONE: Causes = Causes {
         swap_in: 0,
         transfer: 0,
