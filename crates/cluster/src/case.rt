@@ -16,10 +16,10 @@ use protocol::refusal::Refusal;
 use protocol::state::State;
 use protocol::table::{Effect, look_up};
 
+// That a place lies in its table is asked where it is used, since the tables are not the case's.
 /// What a command meets that is not refused with 2 to 10. `place` is the line found in the own
 /// cache, `entry` the lock entry that is written or emptied, `copy` the supplier, and `holder` the
 /// lowest other processor with a lock in the block.
-// That a place lies in its table is asked where it is used, since the tables are not the case's.
 #[derive(Clone, Copy)]
 pub struct Case {
     pub processor: u8,

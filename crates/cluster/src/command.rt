@@ -52,14 +52,14 @@ impl Cluster {
         self.check_locks(locks)
     }
 
+    // The tables and the memory are lent each by itself, so that the contract can say of each what
+    // is in it afterwards.
     /// Issues a command for a processor at a word address: answers done, or WAIT where the command
     /// meets another processor's lock, with their bus cycles. Refuses with 2 to 11 in that order,
     /// and then nothing changes: a table of wrong length, no such processor, an address beyond
     /// memory, a processor that waits, a lock that it holds, no empty lock entry, no such lock, a
     /// direct write where another has a copy or a lock, a machine check, and a block that memory
     /// refuses.
-    // The tables and the memory are lent each by itself, so that the contract can say of each what
-    // is in it afterwards.
     pub fn issue<M: Memory>(
         &mut self,
         lines: &mut [Line],

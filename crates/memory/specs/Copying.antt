@@ -10,4 +10,5 @@ copied m from to = if grants m from then written m to (m.words from) else m
 
 abbrev pub copying : Mem → ℕ → ℕ → Result (Unit {0}) Refusal
 copying m from to =
-    if grants m from then (if grants m to then Ok tt else Err (Memory to Write)) else Err (Memory from Read)
+    if grants m from then (if grants m to then Ok tt else Err (Memory to Write))
+    else Err (Memory from Read)

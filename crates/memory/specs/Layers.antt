@@ -18,4 +18,8 @@ interleaved first second =
 -- a listed block is dead
 abbrev pub screened : List (Option ℕ) → Mem → Mem
 screened dead m =
-    record { count = m.count; live = λ block. not (listed dead block) && m.live block; words = m.words }
+    record {
+      count = m.count;
+      live = λ block. not (listed dead block) && m.live block;
+      words = m.words;
+    }

@@ -11,8 +11,8 @@ pub record Lawful (m : Mem) : Type 0 where
   pub bounded : m.count ≤ 1048576
   pub four : (block : ℕ) → length (m.words block) ≡ 4
 
--- what no call changes beside the meaning: the loans that a memory stands on, by the names under which the checker
--- follows them, and the dead lists
+-- what no call changes beside the meaning: the loans that a memory stands on, by the names under
+-- which the checker follows them, and the dead lists
 pub data Standing : Type 0 where
   loan : ℕ → Standing
   both : Standing → Standing → Standing

@@ -13,7 +13,8 @@ blocks_in n = if fit n then n / 4 else 0
 
 abbrev pub block_in : List ℕ → ℕ → List ℕ
 block_in ws block =
-    slice_index ws (block * 4) ∷ (slice_index ws (block * 4 + 1) ∷ (slice_index ws (block * 4 + 2) ∷ (slice_index ws (block * 4 + 3) ∷ [])))
+    slice_index ws (block * 4) ∷ (slice_index ws (block * 4 + 1)
+    ∷ (slice_index ws (block * 4 + 2) ∷ (slice_index ws (block * 4 + 3) ∷ [])))
 
 abbrev pub table_of : List ℕ → Mem
 table_of ws = record { count = blocks_in (length ws); live = λ block. true; words = block_in ws }
@@ -24,7 +25,9 @@ lawful_table ws =
     record {
       bounded =
           cond_both (fit n) (n / 4) 0 (λ count. count ≤ 1048576)
-          (λ h. let few : n ≤ 4194304 = leb-true n 4194304 (and_parts (n % 4 == 0) (nat_le n 4194304) h).1 in omega arith)
+          (λ h.
+          let few : n ≤ 4194304
+          = leb-true n 4194304 (and_parts (n % 4 == 0) (nat_le n 4194304) h).1 in omega arith)
           (λ h. omega arith);
       four = λ block. refl;
     }

@@ -57,7 +57,9 @@ word_answered U address words = 0
 abbrev pub words_left : Command → ℕ → List ℕ → List ℕ
 words_left R address words = words
 words_left (W word) address words = slice_set words (offset address) word
-words_left (DW word) address words = if at_start address then word ∷ (0 ∷ (0 ∷ (0 ∷ []))) else slice_set words (offset address) word
+words_left (DW word) address words =
+    if at_start address then word ∷ (0 ∷ (0 ∷ (0 ∷ [])))
+    else slice_set words (offset address) word
 words_left RI address words = words
 words_left RP address words = words
 words_left RB address words = words

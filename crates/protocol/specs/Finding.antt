@@ -23,4 +23,5 @@ Within from count xs r = IfSome r (λ i. (from ≤ i) × (i < from + count) × (
 -- the lowest of `count` numbers from `from` on that passes the test
 abbrev pub lowest_from : (ℕ → Bool) → ℕ → ℕ → Option ℕ
 lowest_from test from zero = None
-lowest_from test from (suc count) = if test from then Some from else lowest_from test (from + 1) count
+lowest_from test from (suc count) =
+    if test from then Some from else lowest_from test (from + 1) count

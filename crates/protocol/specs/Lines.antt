@@ -13,4 +13,6 @@ abbrev pub no_line : Line
 no_line = record { state = I; block = 0; words = [] }
 
 abbrev pub in_state : Line → State → Line
-in_state line state = if valid state then record { state = state; block = line.block; words = line.words } else blank_line
+in_state line state =
+    if valid state then record { state = state; block = line.block; words = line.words }
+    else blank_line

@@ -56,6 +56,10 @@ module _ (m : Measures) (run : Run) (b : Board) where
   abbrev pub after_step : Running
   after_step = when_some (due m (records_for run) here) (stepped m (records_for run) here) here
 
+  -- what the run has at its end
+  abbrev pub ran_on : Running
+  ran_on = ran m (records_for run) here
+
   abbrev pub to_go_on : ℕ
   to_go_on = to_go m (records_for run) here
 

@@ -46,9 +46,9 @@ impl Watch for Lines {
     }
 }
 
-/// The listing of a trace's run on a cluster and a memory as they are: a line for each step, the total
-/// of bus cycles, and the number of records left, if there are any. A table of wrong length is not
-/// refused here: each command is, with 2. Only want of memory is an error.
+/// The listing of a trace's run on a cluster and a memory as they are: a line for each step, the
+/// total of bus cycles, and the number of records left, if there are any. A table of wrong length
+/// is not refused here: each command is, with 2. Only want of memory is an error.
 pub fn list_run<M: Memory>(
     heap: Global,
     cluster: &mut Cluster,
@@ -72,8 +72,8 @@ pub fn list_run<M: Memory>(
     Ok(out)
 }
 
-/// The listing of a trace's run on a new cluster of a geometry, over a memory. Only want of memory is
-/// an error.
+/// The listing of a trace's run on a new cluster of a geometry, over a memory. Only want of memory
+/// is an error.
 pub fn list_trace<M: Memory>(
     heap: Global,
     geometry: Geometry,
@@ -96,8 +96,8 @@ pub fn list_trace<M: Memory>(
     )
 }
 
-/// The geometry of the cluster that a trace is listed with: the trace's processors, 16 columns, 4 ways,
-/// 2 lock entries, standard costs.
+/// The geometry of the cluster that a trace is listed with: the trace's processors, 16 columns, 4
+/// ways, 2 lock entries, standard costs.
 #[tactic(auto, using(crate::proofs::Measured::geometry_made, crate::proofs::Measured::listing_lawful))]
 pub fn listing_geometry(trace: &Trace) -> Geometry
     ensures { result.measures ≡ listing_measures trace.now.processors }
@@ -131,8 +131,8 @@ fn list_refusal(heap: Global, refusal: Refusal) -> Result<Vec<u8>, AllocError>
     Ok(out)
 }
 
-/// The trace that the listing program lists. Refuses an input of over 65,536 bytes with 12, as one with
-/// a wrong trailer, then as reading a trace does with 12 or 13.
+/// The trace that the listing program lists. Refuses an input of over 65,536 bytes with 12, as one
+/// with a wrong trailer, then as reading a trace does with 12 or 13.
 pub fn read_listed(input: &[u8]) -> Result<Trace<'_>, Refusal>
     ensures { let long = nat_lt 65536 (length input.now) in
         result_map_both (λ t. content_of t.processors t.records.now) (λ refusal. refusal) result
@@ -144,9 +144,9 @@ pub fn read_listed(input: &[u8]) -> Result<Trace<'_>, Refusal>
     Trace::read(input)
 }
 
-/// The listing that the listing program writes for an input: of the trace that it is, on a cluster of
-/// the trace's processors, 16 columns, 4 ways and 2 lock entries over 1,024 zero words, or the line of
-/// its refusal, 12 or 13. Only want of memory is an error.
+/// The listing that the listing program writes for an input: of the trace that it is, on a cluster
+/// of the trace's processors, 16 columns, 4 ways and 2 lock entries over 1,024 zero words, or the
+/// line of its refusal, 12 or 13. Only want of memory is an error.
 pub fn list(heap: Global, input: &[u8]) -> Result<Vec<u8>, AllocError>
     ensures { IfOk result (λ out. out.items ≡ listing_of input.now) }
 {

@@ -4,8 +4,8 @@ ghost use Rattle.trace.specs.Traces.{trace_of};
 ghost use Rattle.law.specs.Along.{LawAlong};
 ghost use Rattle.cluster.specs.Board.{board_of};
 ghost use Rattle.run.specs.Commands.{AsCommands, issued, steps_on};
-ghost use Rattle.run.specs.Kept.{records_for, state_of, to_go_on};
-ghost use Rattle.run.specs.Running.{due, ran, run_rule, Ended};
+ghost use Rattle.run.specs.Kept.{records_for, state_of, to_go_on, ran_on};
+ghost use Rattle.run.specs.Running.{due, run_rule, Ended};
 
 use crate::run::Run;
 use cluster::cluster::Cluster;
@@ -17,8 +17,7 @@ use text::step::Summary;
 use trace::trace::Trace;
 
 impl<'a> Run<'a> {
-    // Takes steps until none is possible. The listing's loop is not this one: it writes each step, and a closure that
-    // writes would have to be told of by what it leaves after each call.
+    // Takes steps until none is possible.
     fn finish<M: Memory>(
         &mut self,
         cluster: &mut Cluster,
@@ -28,10 +27,10 @@ impl<'a> Run<'a> {
     )
         requires { let before = board_of cluster.old lines.old locks.old (M.model memory.old) in
             self.old.steps + to_go_on cluster.old.geometry.measures self.old before ≤ 999999999 }
-        ensures after { let before = board_of cluster.old lines.old locks.old (M.model memory.old) in
+        ensures after { let before = board_of cluster.old
+            lines.old locks.old (M.model memory.old) in
             let after = board_of cluster.new lines.new locks.new (M.model memory.new) in
-            state_of self.new after
-            ≡ ran cluster.old.geometry.measures (records_for self.old) (state_of self.old before) }
+            state_of self.new after ≡ ran_on cluster.old.geometry.measures self.old before }
         ensures ended { let after = board_of cluster.new lines.new locks.new (M.model memory.new) in
             let state = state_of self.new after in
             due cluster.old.geometry.measures (records_for self.old) state ≡ None }
@@ -43,7 +42,9 @@ impl<'a> Run<'a> {
     }
 }
 
-// Runs a trace to its end. Refuses with 2, 12 or 13, only before the first step.
+/// Runs a trace to its end on a cluster, its tables and a memory: the number of steps, their bus
+/// cycles and the number of records left. Refuses with 2 a table of wrong length, lines first, then
+/// with 12 or 13 as reading a trace does; only before the first step, and then nothing changes.
 #[tactic(auto, unfolding(crate::specs::Running::run_rule))]
 pub fn run_trace<M: Memory>(
     cluster: &mut Cluster,

@@ -77,7 +77,8 @@ impl<'a> Run<'a> {
     // Counts the step and its cycles; an answer that finishes its record moves its processor on.
     fn account(&mut self, processor: u8, answer: &Result<Answer, Refusal>)
         requires listed { processor < 8 }
-        requires inside { slice_index self.old.next processor < records_in self.old.trace.records.now }
+        requires inside { let count = records_in self.old.trace.records.now in
+            slice_index self.old.next processor < count }
         requires few { self.old.steps < 1000000000 }
         requires cost { cost_of answer.now ≤ 4000 }
         ensures trace { self.new.trace ≡ self.old.trace }
@@ -104,9 +105,11 @@ impl<'a> Run<'a> {
         memory: &mut M,
     ) -> Option<Step>
         requires { self.old.steps < 1000000000 }
-        ensures value { let before = board_of cluster.old lines.old locks.old (M.model memory.old) in
+        ensures value { let before = board_of cluster.old
+            lines.old locks.old (M.model memory.old) in
             result ≡ next_step cluster.old.geometry.measures self.old before }
-        ensures after { let before = board_of cluster.old lines.old locks.old (M.model memory.old) in
+        ensures after { let before = board_of cluster.old
+            lines.old locks.old (M.model memory.old) in
             let after = board_of cluster.new lines.new locks.new (M.model memory.new) in
             state_of self.new after ≡ after_step cluster.old.geometry.measures self.old before }
         ensures stepped { let count = records_in self.old.trace.records.now in
@@ -129,8 +132,7 @@ impl<'a> Run<'a> {
         })
     }
 
-    #[tactic(auto, using(crate::proofs::Turns::many, crate::proofs::Turns::request_there), unfolding(crate::specs::Kept::is_left))]
-    // Tried as `is_some_and` of the record: the check leaves open what the closure returns.
+    // By `is_some_and` of the record the check leaves open what the closure returns.
     fn unfinished(&self, index: usize) -> bool
         ensures { result ≡ is_left self.now index }
     {

@@ -1,5 +1,5 @@
 // A run that is watched step by step.
-ghost use Rattle.std.specs.Prelude.{◌≡◌, IfOk, OnOk};
+ghost use Rattle.std.specs.Prelude.{◌≡◌, IfOk, OnOk, ⊤};
 ghost use Rattle.cluster.specs.Board.{board_of};
 ghost use Rattle.text.specs.declared.step.Step.{Step};
 ghost use Rattle.trace.specs.Traces.{records_of};
@@ -25,10 +25,21 @@ pub trait Watch {
         ensures { OnOk result (sees self.old step.now self.new) };
 }
 
-/// Runs a trace to its end and shows a watcher each step. A line or lock table of wrong length is not
-/// refused here: each command is, with 2. Only the watcher's want of memory is an error.
-// A step borrows the cluster, its tables and the memory anew each time; an iterator of steps would
-// hold them, and promise what stands in them after each.
+/// A watcher that makes nothing of what it is shown.
+#[derive(Drop)]
+pub struct Unwatched;
+
+impl Watch for Unwatched {
+    ghost sees = { λ before step after. ⊤ };
+
+    fn see(&mut self, _step: &Step) -> Result<(), AllocError> {
+        Ok(())
+    }
+}
+
+// No iterator of steps: it would hold the cluster, its tables and the memory from step to step.
+/// Runs a trace to its end and shows a watcher each step. A line or lock table of wrong length is
+/// not refused here: each command is, with 2. Only the watcher's want of memory is an error.
 pub fn run_watched<M: Memory, W: Watch>(
     cluster: &mut Cluster,
     lines: &mut [Line],
@@ -42,9 +53,9 @@ pub fn run_watched<M: Memory, W: Watch>(
         let end = end_of cluster.old.geometry.measures before records in
         IfOk result (λ s. s ≡ summary_of cluster.old.geometry.measures records end) }
     ensures board { let before = board_of cluster.old lines.old locks.old (M.model memory.old) in
-        let end = end_of cluster.old.geometry.measures before (records_of trace.entry.records.now) in
-        let after = board_of cluster.new lines.new locks.new (M.model memory.new) in
-        OnOk result (after ≡ end.board) }
+        let records = records_of trace.entry.records.now in
+        let end = end_of cluster.old.geometry.measures before records in
+        OnOk result (board_of cluster.new lines.new locks.new (M.model memory.new) ≡ end.board) }
     ensures seen { let before = board_of cluster.old lines.old locks.old (M.model memory.old) in
         let records = records_of trace.entry.records.now in
         let steps = steps_of cluster.old.geometry.measures records (started records before) in

@@ -16,7 +16,8 @@ fn lowest_holder(cluster: &Cluster, locks: &[LockEntry], address: u32) -> Option
 }
 
 /// The lowest processor that holds a lock at the word address, or none; any address may be asked.
-/// Line table and memory are not lent: they may be any. Refuses a lock table of wrong length with 2.
+/// Line table and memory are not lent: they may be any. Refuses a lock table of wrong length with
+/// 2.
 pub fn lock_question(
     cluster: &Cluster,
     locks: &[LockEntry],

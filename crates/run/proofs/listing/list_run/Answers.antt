@@ -13,7 +13,8 @@ unfolding all_lines
 returns-clause-listing g c =
     let cluster = c.args.cluster.now in
     let recs = records_of c.args.trace.records.now in
-    let before = board_of cluster c.args.lines.now c.args.locks.now (g.M.Memory.model c.args.memory.now) in
+    let before = board_of cluster c.args.lines.now c.args.locks.now (g.M.Memory.model c.args.memory.now)
+    in
     let steps = steps_of cluster.geometry.measures recs (started recs before) in
     let told = c.in_ok-summary.ensures in
     let lines = seen_lines {W = Lines} (λ a s b. vec_items b.out ≡ vec_items a.out ++ line_of s)

@@ -14,15 +14,18 @@ loop-step-init g c =
     let cluster = c.args.cluster.now in
     let m = cluster.geometry.measures in
     let told = c.start-run.ensures in
-    let before = board_of cluster c.args.lines.now c.args.locks.now (g.M.Memory.model c.args.memory.now) in
+    let before = board_of cluster c.args.lines.now c.args.locks.now (g.M.Memory.model c.args.memory.now)
+    in
     let first = started recs before in
     let start = told.first before ∙ ap (λ t. started (records_of t.records.now) before) told.trace in
     let sees = g.W.Watch.sees in
     let watcher = c.args.watcher.now in
     let Here : Running → Type 0
     = λ x. (fuel : ℕ) × Going m recs first x fuel
-    × ((w : _) → SeesAll sees watcher (steps_from m recs fuel x) w → SeesAll sees watcher (steps_of m recs first) w) in
-    let going = going_start m recs first (start_few m recs first cluster.geometry.few_processors (few_records c.args.trace) refl) in
+    × ((w : _) → SeesAll sees watcher (steps_from m recs fuel x) w
+    → SeesAll sees watcher (steps_of m recs first) w) in
+    let going = going_start m recs first
+    (start_few m recs first cluster.geometry.few_processors (few_records c.args.trace) refl) in
     (subst Here (sym start) (to_go m recs first, going, λ w seen. seen), told.trace, refl, refl)
 
 pub loop-step-preserved : goal.loop-step-preserved
@@ -48,10 +51,12 @@ returns g c =
     let stop = stops _ _ _ _ inv.2 inv.1 _ _ _ _ inv.0.1 told.value told.after in
     let kept = ap (λ t. records_of t.records.now) (told.trace ∙ inv.1) in
     record {
-      answer = c.summary.ensures.value ∙ summed m last.self recs left kept ∙ ap (summary_of m recs) stop.end;
+      answer = c.summary.ensures.value ∙ summed m last.self recs left kept
+          ∙ ap (summary_of m recs) stop.end;
       board = ap (λ s. s.board) stop.end;
       seen = inv.0.2 c.loop-step.watcher
-          (subst (λ steps. SeesAll g.W.Watch.sees c.loop-step.watcher steps c.loop-step.watcher) (sym stop.no_more) refl);
+          (subst (λ steps. SeesAll g.W.Watch.sees c.loop-step.watcher steps c.loop-step.watcher)
+          (sym stop.no_more) refl);
       geometry = told.geometry ∙ inv.2;
       kept = told.kept ∙ inv.3;
     }

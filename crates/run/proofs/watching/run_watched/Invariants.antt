@@ -11,7 +11,8 @@ abbrev pub invariant-loop-step : goal.invariant-loop-step
 invariant-loop-step g l =
     let recs = records_of l.fn.trace.records.now in
     let m = l.initial.cluster.geometry.measures in
-    let before = board_of l.initial.cluster l.initial.lines l.initial.locks (g.M.Memory.model l.initial.memory) in
+    let before = board_of l.initial.cluster l.initial.lines l.initial.locks
+    (g.M.Memory.model l.initial.memory) in
     let first = started recs before in
     let here = state_of l.run (board_of l.cluster l.lines l.locks (g.M.Memory.model l.memory)) in
     ((fuel : ℕ) × Going m recs first here fuel
@@ -23,4 +24,5 @@ invariant-loop-step g l =
 
 abbrev pub decreases-loop-step : goal.decreases-loop-step
 decreases-loop-step g l =
-    to_go_on l.cluster.geometry.measures l.run (board_of l.cluster l.lines l.locks (g.M.Memory.model l.memory))
+    to_go_on l.cluster.geometry.measures l.run
+    (board_of l.cluster l.lines l.locks (g.M.Memory.model l.memory))
