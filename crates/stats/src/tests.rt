@@ -1,5 +1,5 @@
 // Statistics of runs that were worked out by hand.
-use crate::statistics::{Statistics, run_statistics};
+use crate::statistics::{Statistics, trace_statistics};
 use memory::dead::DeadList;
 use memory::memory::Memory;
 use memory::screen::Screen;
@@ -7,7 +7,6 @@ use memory::word_table::WordTable;
 use protocol::command::{Command, Request};
 use protocol::geometry::Geometry;
 use protocol::measures::{Costs, Measures};
-use run::board::Board;
 use std::alloc::{AllocError, Global};
 use std::test::Fail;
 use trace::record::{Record, encode};
@@ -40,17 +39,8 @@ fn statistics<M: Memory>(
     bytes: &[u8],
 ) -> Result<Statistics, Fail> {
     let geometry = Geometry::new(measures).ok().ok_or("geometry")?;
-    let mut board = Board::new(heap, geometry)?;
     let trace = Trace::read(bytes).ok().ok_or("trace")?;
-    let numbers = run_statistics(
-        heap,
-        &mut board.cluster,
-        &mut board.lines,
-        &mut board.locks,
-        memory,
-        trace,
-    )?;
-    Ok(numbers)
+    Ok(trace_statistics(heap, geometry, memory, trace)?)
 }
 
 // Names and numbers, one a line.
