@@ -1,8 +1,7 @@
 -- The stamps of a trace's records.
-use Rattle.std.proofs.Common.{◌≡◌, ℕ, ◌*◌, ◌<◌, ◌≤◌, ltb, Bool, true, false, List, length, take, drop, get_or, Some, None, sym, ap, ◌∙◌, inl, inr, arith}
+use Rattle.std.proofs.Common.{◌≡◌, ℕ, ◌*◌, length, take, drop, sym, ◌∙◌, inl, inr, arith}
 use Rattle.std.specs.Prelude.{slice_get}
 use Rattle.std.proofs.lemmas.Option.{slice_get-get_or, slice_get_cases}
-use Rattle.trace.specs.declared.record.Record.{Record}
 use Rattle.trace.specs.declared.trace.Trace.{Trace}
 use Rattle.trace.specs.Records.{decoded}
 use Rattle.trace.specs.Sizes.{records_in}
@@ -21,9 +20,9 @@ module _ (t : Trace) where
   record_at i =
       let recs = records_of t.records.now in
       elim (slice_get_cases recs i).1 [
-        inl there ↦
+        | inl there ↦
             (known t.processors no_record t.records.now t.sound i (omega (arith, there.1, many))).given
             ∙ sym (slice_get-get_or recs i no_record there.1)
-      | inr past ↦
+        | inr past ↦
             too_short _ (past_records t.records.now i (omega (arith, past.0, many))) ∙ sym past.1
       ]

@@ -1,5 +1,5 @@
 -- How many bytes the lines of a listing have.
-use Rattle.std.proofs.Common.{◌≡◌, ℕ, zero, suc, ◌+◌, ◌-◌, ◌*◌, ◌/◌, ◌%◌, ◌<◌, ◌≤◌, Bool, true, false, List, [], ◌∷◌, ◌++◌, length, Ok, Err, Result, ltb, sym, refl, ap, ◌∙◌, arith, length-append}
+use Rattle.std.proofs.Common.{◌≡◌, ℕ, zero, suc, ◌+◌, ◌*◌, ◌/◌, ◌%◌, ◌≤◌, Bool, true, false, List, [], ◌∷◌, ◌++◌, length, Ok, Err, Result, ltb, refl, arith, length-append}
 use Rattle.std.specs.Prelude.{if◌then◌else◌, codes}
 use Rattle.protocol.specs.declared.answer.Answer.{Answer}
 use Rattle.protocol.specs.declared.answer.Answer.TheVariants.{Done, Wait}
@@ -17,7 +17,7 @@ use Rattle.text.specs.declared.step.Step.{Step}
 use Rattle.text.specs.declared.step.Summary.{Summary}
 use Rattle.text.specs.Digits.{digit_of, fixed}
 use Rattle.text.specs.Names.{command_named, state_named}
-use Rattle.text.specs.Lines.{field, last_field, answer_named, shown_of, shown_line, line_of, stuck_line, summary_lines}
+use Rattle.text.specs.Lines.{field, last_field, shown_of, shown_line, line_of, stuck_line, summary_lines}
 use Rattle.trace.specs.declared.record.Record.{Record}
 use Rattle.run.specs.Listing.{lines_of, all_lines, listing_on}
 use Rattle.run.specs.Running.{started, steps_of, summary_of, ran}

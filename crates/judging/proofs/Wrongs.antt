@@ -1,15 +1,15 @@
 -- Where a record or a trailer is wrong, and which rule it breaks.
-use Rattle.std.proofs.Common.{◌≡◌, ℕ, zero, suc, ◌+◌, ◌-◌, ◌*◌, ◌%◌, ◌<◌, ◌≤◌, ◌==◌, Bool, true, false, List, [], ◌∷◌, length, take, drop, get_or, Some, None, Ok, Err, Option, sym, refl, ap, subst, ◌∙◌, arith, length-drop}
-use Rattle.std.specs.Prelude.{if◌then◌else◌, slice_index}
+use Rattle.std.proofs.Common.{◌≡◌, ℕ, zero, suc, ◌+◌, ◌-◌, ◌*◌, ◌%◌, ◌<◌, ◌≤◌, ◌==◌, false, List, length, take, drop, get_or, Some, None, Ok, Err, Option, sym, refl, ap, subst, ◌∙◌, arith, length-drop}
+use Rattle.std.specs.Prelude.{if◌then◌else◌}
 use Rattle.std.proofs.lemmas.Bool.Decides.{nat_tests}
 use Rattle.std.proofs.lemmas.List.{drop-drop, drop-take, take-take, get_or-drop, get_or-take, length-take-le}
 use Rattle.protocol.specs.declared.refusal.Refusal.{Refusal}
 use Rattle.protocol.specs.declared.refusal.Refusal.TheVariants as refusal
 use Rattle.trace.specs.declared.record.Record.{Record}
 use Rattle.trace.specs.declared.trailer.Trailer.{Trailer}
-use Rattle.trace.specs.Records.{number_at, decoded, wordless_for, command_for}
+use Rattle.trace.specs.Records.{number_at}
 use Rattle.trace.specs.Sizes.{records_in}
-use Rattle.trace.specs.Traces.{lawful, trailer_of, follows, lawful_record, wrong_from, record_bytes, content_of, trace_of, when_some}
+use Rattle.trace.specs.Traces.{trailer_of, lawful_record, wrong_from, record_bytes, content_of, trace_of, when_some}
 use Rattle.judging.specs.Rules.{keeps_trailer, trailer_fault, keeps_record, record_fault, trailer_byte, size_said}
 use Rattle.judging.specs.Checks.{record_place, record_there, stamp_before}
 

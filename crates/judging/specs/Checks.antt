@@ -1,5 +1,5 @@
 -- What bytes are: a trace, or the first rule of the format that they break.
-use Rattle.std.specs.Prelude.{◌≡◌, ℕ, ◌+◌, ◌-◌, ◌*◌, if◌then◌else◌, Bool, false, List, length, take, drop, Ok, Err, Option, Result, ◌==◌, slice_get}
+use Rattle.std.specs.Prelude.{◌≡◌, ℕ, ◌+◌, ◌-◌, ◌*◌, if◌then◌else◌, false, List, length, take, drop, Ok, Err, Option, Result, ◌==◌, slice_get}
 use Rattle.std.specs.Option.{option_map}
 use Rattle.protocol.specs.declared.refusal.Refusal.{Refusal}
 use Rattle.protocol.specs.declared.refusal.Refusal.TheVariants as refusal
@@ -10,7 +10,6 @@ use Rattle.judging.specs.declared.checking.Overview.{Overview}
 use Rattle.judging.specs.declared.checking.Checked.{Checked}
 use Rattle.judging.specs.declared.checking.Checked.TheVariants.{Trace, Trailer, Record as WrongRecord}
 use Rattle.judging.specs.declared.faults.RecordFault.{RecordFault}
-use Rattle.judging.specs.declared.faults.TrailerFault.{TrailerFault}
 use Rattle.judging.specs.Rules.{trailer_byte, size_said, trailer_fault, record_fault, keeps_trailer, keeps_record}
 
 -- the stamp of a record, by its number from 0

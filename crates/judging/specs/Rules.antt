@@ -1,5 +1,5 @@
 -- The rules of a trace's trailer and of a record, and the first that some bytes break.
-use Rattle.std.specs.Prelude.{ℕ, ◌+◌, ◌-◌, ◌*◌, ◌%◌, Bool, if◌then◌else◌, not, ◌&&◌, ◌||◌, List, length, take, drop, codes, ◌==◌, nat_lt, nat_le, slice_index}
+use Rattle.std.specs.Prelude.{ℕ, ◌+◌, ◌-◌, ◌%◌, Bool, if◌then◌else◌, not, ◌&&◌, ◌||◌, List, length, codes, ◌==◌, nat_lt, nat_le, slice_index}
 use Rattle.judging.specs.declared.faults.TrailerFault.{TrailerFault}
 use Rattle.judging.specs.declared.faults.TrailerFault.TheVariants as trailer
 use Rattle.judging.specs.declared.faults.RecordFault.{RecordFault}

@@ -1,5 +1,5 @@
 // A board's listing of a trace held against the model's.
-ghost use Rattle.std.specs.Prelude.{◌≡◌, ◌↔◌, ◌-◌, ◌/◌, length, IfOk, OnOk};
+ghost use Rattle.std.specs.Prelude.{◌≡◌, ◌↔◌, length, IfOk, OnOk};
 ghost use Rattle.trace.specs.Traces.{records_of};
 ghost use Rattle.run.specs.Listing.{listing_on};
 ghost use Rattle.judging.specs.Judged.{steps_on, steps_listed};
@@ -15,9 +15,6 @@ use trace::trace::Trace;
 /// The bytes of the line of a step.
 const STEP_LINE: usize = 45;
 
-/// The bytes of the line TOTAL. A line STUCK has 14 more.
-const TOTAL_LINE: usize = 19;
-
 /// What a listing that was held against the model's came to.
 #[derive(Drop)]
 pub struct Judgement {
@@ -28,12 +25,12 @@ pub struct Judgement {
     pub ours: Vec<u8>,
 }
 
-// By its length, since all lines of steps are equally long, and what stands behind them is shorter
-// than the line TOTAL and one line of a step.
+// By its length: the lines of steps are equally long, and the lines TOTAL and STUCK together are
+// shorter than one of them.
 fn steps_listed(listing: &[u8]) -> usize
     ensures { result ≡ steps_listed listing.now }
 {
-    listing.len().saturating_sub(TOTAL_LINE) / STEP_LINE
+    listing.len() / STEP_LINE
 }
 
 /// Makes the listing of a trace's run on a new cluster of a geometry, over a memory, and compares a

@@ -6,3 +6,5 @@ pub mod comparing;
 pub mod faults;
 pub mod fields;
 pub mod judging;
+#[cfg(test)]
+mod tests;

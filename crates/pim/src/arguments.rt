@@ -126,7 +126,7 @@ fn run<'a>(heap: Global) -> Result<Command<'a>, AllocError> {
     with_cluster(heap, command)
 }
 
-fn text<'a>(heap: Global) -> Result<Command<'a>, AllocError> {
+fn trace_of_text<'a>(heap: Global) -> Result<Command<'a>, AllocError> {
     Command::new(heap, "trace")
         .about("Write the trace of a text")
         .arg(file(heap, "TEXT", "The text; standard input if no file is named"))
@@ -178,7 +178,7 @@ pub fn command<'a>(heap: Global) -> Result<Command<'a>, AllocError> {
         .subcommand(run(heap)?)?
         .subcommand(with_cluster(heap, census)?)?
         .subcommand(with_trace(heap, "text", "Write a trace as text")?)?
-        .subcommand(text(heap)?)?
+        .subcommand(trace_of_text(heap)?)?
         .subcommand(recipe(heap)?)?
         .subcommand(judge(heap)?)?
         .subcommand(with_trace(

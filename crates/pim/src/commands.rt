@@ -11,9 +11,8 @@ use clap::ArgMatches;
 use counting::counting::count_trace;
 use judging::comparing::Verdict;
 use judging::judging::judge;
-use run::board::Board;
 use run::listing::list_trace;
-use stats::statistics::{Statistics, run_statistics};
+use stats::statistics::{Statistics, trace_statistics};
 use std::alloc::Global;
 use trace::writing::write_trace;
 use trace_text::reading::read_text;
@@ -47,15 +46,8 @@ fn census(heap: Global, options: &ArgMatches, input: &[u8]) -> Result<Vec<u8>> {
 fn statistics(heap: Global, options: &ArgMatches, input: &[u8]) -> Result<Statistics> {
     let trace = read_trace(input)?;
     let mut setup = Setup::of(heap, options, trace.processors())?;
-    let mut board = Board::new(heap, setup.geometry)?;
-    Ok(run_statistics(
-        heap,
-        &mut board.cluster,
-        &mut board.lines,
-        &mut board.locks,
-        &mut setup.memory(),
-        trace,
-    )?)
+    let geometry = setup.geometry;
+    Ok(trace_statistics(heap, geometry, &mut setup.memory(), trace)?)
 }
 
 fn run(heap: Global, options: &ArgMatches, input: &[u8]) -> Result<Vec<u8>> {

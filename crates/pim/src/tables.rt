@@ -70,7 +70,7 @@ fn put_command(out: &mut Vec<u8>, tally: &Tally, processor: usize, command: usiz
 fn put_commands(out: &mut Vec<u8>, tally: &Tally) -> Result<()> {
     writeln!(
         out,
-        "\nprocessor and command          done     waiting     refused"
+        "\nprocessor and command           done     waiting     refused"
     )?;
     for processor in 0..8 {
         for command in 0..9 {

@@ -78,7 +78,8 @@ module _ (m : Measures) (records : List Record) where
   module _ (served : (i : ℕ) → (request_at records i).processor < 8) where
     served_more : (n : ℕ) (s : Running) (o : Option ℕ)
         → ((i : ℕ) → AllServed (steps_from m records n (stepped m records s i)))
-        → AllServed (when_some o (λ i. shown m records s i ∷ steps_from m records n (stepped m records s i)) [])
+        → AllServed
+        (when_some o (λ i. shown m records s i ∷ steps_from m records n (stepped m records s i)) [])
     unfolding shown
     served_more n s None rest = tt
     served_more n s (Some i) rest = (served i, rest i)

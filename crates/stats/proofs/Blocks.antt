@@ -33,7 +33,8 @@ pub of_blocks : (lines : List Line) (blocks : ℕ) → length lines < 2 ^ 64 →
     ≡ blocks_by_copies lines blocks
 unfolding blocks_by_copies
 of_blocks lines blocks short few =
-    let copies : all_counted copy_in (replicate blocks 0) lines ≡ map (copies_of lines) (range_with_len 0 blocks)
+    let copies : all_counted copy_in (replicate blocks 0) lines
+    ≡ map (copies_of lines) (range_with_len 0 blocks)
     = all_counted_by copy_in blocks lines short
     ∙ (λ i. map (λ b. count_by (λ line. copy_placed line b i) lines) (range_with_len 0 blocks)) in
     let long = length-map-range_with_len (copies_of lines) 0 blocks in

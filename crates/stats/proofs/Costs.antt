@@ -94,10 +94,11 @@ module _ (m : Measures) (b : Board) where
   proceeds c =
       meets (waiting m b c) (lock_hit c) (supplying m b c) (waits_add c)
       (unless (supplied m b.lines b.memory c) (swapping m b c)
-      (λ s. let victim = victim_of b.lines (way_taken m b.processors b.lines c) in
+      (λ s. let taken = way_taken m b.processors b.lines c in
+      let victim = victim_of b.lines taken in
       unless (swapped_out b.memory victim)
-      (λ swapped. finishing m b c s (way_taken m b.processors b.lines c) swapped (memory_after b.memory victim))
-      (λ swapped. finishes_add c s (way_taken m b.processors b.lines c) swapped (memory_after b.memory victim))))
+      (λ swapped. finishing m b c s taken swapped (memory_after b.memory victim))
+      (λ swapped. finishes_add c s taken swapped (memory_after b.memory victim))))
 
   pub command_causes : (q : Request) → Adds (command_rule m b q)
   command_causes q = by_fit (tables_fit m (length b.lines) (length b.locks))

@@ -5,3 +5,4 @@ pub mod Along
 pub mod Costs
 pub mod Totals
 pub mod Entries
+pub mod Adding

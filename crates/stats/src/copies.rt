@@ -1,6 +1,5 @@
 // What the line table holds: lines by state, and blocks by the number of their copies.
-ghost use Rattle.std.specs.Prelude.{◌≡◌, ℕ, length, map, replicate, IfOk};
-ghost use Rattle.std.specs.List.{range_with_len};
+ghost use Rattle.std.specs.Prelude.{◌≡◌, replicate, IfOk, Some};
 ghost use Rattle.upkeep.specs.Counting.{count_in, row_of};
 ghost use Rattle.stats.specs.Copies.{copy_in, all_counted, blocks_by_copies};
 
@@ -66,8 +65,8 @@ fn count_numbers(numbers: &[u64]) -> [u64; 9]
     counts
 }
 
-/// How many of the blocks 0 to `blocks` - 1 have 0, 1, .. 8 valid copies in a line table. Only want of
-/// memory is an error.
+/// How many of the blocks 0 to `blocks` - 1 have 0, 1, .. 8 valid copies in a line table. Only want
+/// of memory is an error.
 pub fn blocks_by_copies(heap: Global, lines: &[Line], blocks: u32) -> Result<[u64; 9], AllocError>
     ensures { IfOk result (λ counts. counts ≡ blocks_by_copies lines.now blocks) }
 {

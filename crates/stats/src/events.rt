@@ -1,5 +1,5 @@
 // What one step of a run did.
-ghost use Rattle.std.specs.Prelude.{◌≡◌, ◌<◌, IfSome};
+ghost use Rattle.std.specs.Prelude.{◌≡◌, ◌<◌};
 ghost use Rattle.stats.specs.Events;
 
 use protocol::answer::{Answer, Completion, Supplier};

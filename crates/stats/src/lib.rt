@@ -6,3 +6,5 @@ mod events;
 pub mod named;
 pub mod statistics;
 pub mod tally;
+#[cfg(test)]
+mod tests;

@@ -11,7 +11,9 @@ use std::alloc::{AllocError, Global};
 /// A number of a run, under its name.
 #[derive(Drop)]
 pub struct Named {
+    /// As in docs/FORMATS.md, "Statistics of a run".
     pub name: String,
+    /// The number itself.
     pub value: u64,
 }
 

@@ -1,27 +1,32 @@
 // The steps of a run, counted by what they did.
-ghost use Rattle.std.specs.Prelude.{◌≡◌, ℕ, ◌<◌, ◌+◌, ◌%◌, ◌^◌, if◌then◌else◌, IfSome};
+ghost use Rattle.std.specs.Prelude.{◌≡◌, ◌+◌, if◌then◌else◌};
 ghost use Rattle.stats.specs.Events.{cell_of};
-ghost use Rattle.stats.specs.Tallying.{wrapped, one_more_at, no_cycles, no_steps, causes_added, added};
+ghost use Rattle.stats.specs.Tallying.{wrapped, one_more_at, no_steps, causes_added, added};
 
 use crate::events;
 use protocol::measures::Costs;
 use text::step::Step;
 
-/// Bus cycles by their cause. A lock signal is the UL of a done step or a WAIT.
+/// Bus cycles by what caused them.
 #[derive(Clone, Copy)]
 pub struct Causes {
+    /// Blocks that memory supplied.
     pub swap_in: u64,
+    /// Blocks that another cache supplied.
     pub transfer: u64,
+    /// Blocks swapped out.
     pub swap_out: u64,
+    /// Bus commands I.
     pub invalidation: u64,
+    /// UL of done steps, and WAIT answers.
     pub lock_signal: u64,
 }
 
 /// Steps counted by what they did.
 #[derive(Clone, Copy)]
 pub struct Tally {
-    /// Steps answered done, for each of eight processors and nine commands: ordered by processor, then
-    /// by command as R W DW RI RP RB LR UW U.
+    /// Steps answered done, for each of eight processors and nine commands: ordered by processor,
+    /// then by command as R W DW RI RP RB LR UW U.
     pub done: [u64; 72],
     /// Steps answered WAIT, in the same order.
     pub waiting: [u64; 72],
@@ -95,6 +100,7 @@ fn cost_if(cycles: &mut u64, cost: u32, costs: bool)
 }
 
 impl Causes {
+    /// No bus cycles.
     pub const NONE: Causes = Causes {
         swap_in: 0,
         transfer: 0,
@@ -155,8 +161,8 @@ impl Tally {
         }
     }
 
-    /// Adds a step of a run whose bus costs are given. Numbers past 2^64 - 1 begin again at 0: no run
-    /// has so many steps.
+    /// Adds a step of a run whose bus costs are given. Numbers past 2^64 - 1 begin again at 0: no
+    /// run has so many steps.
     pub fn add(&mut self, costs: &Costs, step: &Step)
         ensures { self.new ≡ added costs.now step.now self.old }
     {

@@ -1,5 +1,4 @@
-use Rattle.std.proofs.Common.{◌≡◌, Err, ap, sym, ◌∙◌, rules}
-use Rattle.trace.specs.Traces.{trace_of}
+use Rattle.std.proofs.Common.{Err, ap, sym, ◌∙◌}
 use Rattle.judging.specs.declared.checking.Checked.TheVariants.{Trace, Record, Trailer}
 use Rattle.judging.specs.Rules.{keeps_record, keeps_trailer, trailer_byte}
 use Rattle.judging.specs.Checks.{checked_as, checked_of, stamp_before, record_there}

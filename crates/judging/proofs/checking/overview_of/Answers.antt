@@ -1,4 +1,4 @@
-use Rattle.std.proofs.Common.{◌≡◌, ◌+◌, ◌-◌, ◌*◌, length, ap, sym, ◌∙◌, arith, rules}
+use Rattle.std.proofs.Common.{◌≡◌, ◌+◌, ◌-◌, ◌*◌, length, ap, sym, ◌∙◌}
 use Rattle.trace.specs.Traces.{records_of}
 use Rattle.judging.specs.Checks.{stamp_of}
 use Rattle.judging.proofs.Stamps.{many}
