@@ -154,7 +154,7 @@ def shorten(binary, good):
 
 
 def readable(good):
-    """The trace in the form of crates/cases/cases.txt."""
+    """The trace in the form of crates/test_cases/cases.txt."""
     note, records, processors = good
     lines = ["processors %d" % processors]
     if note:

@@ -1,5 +1,5 @@
 #!/usr/bin/env python3
-"""Makes crates/cases/stdin and crates/cases/stdout from crates/cases/cases.txt.
+"""Makes crates/test_cases/stdin and crates/test_cases/stdout from crates/test_cases/cases.txt.
 
     python3 tests/make_cases.py           write both files
     python3 tests/make_cases.py --check   exit 1 if they are not up to date
@@ -18,7 +18,7 @@ import sys
 sys.dont_write_bytecode = True
 import model
 
-CASES = pathlib.Path(__file__).resolve().parent.parent / "crates" / "cases"
+CASES = pathlib.Path(__file__).resolve().parent.parent / "crates" / "test_cases"
 NAME = re.compile(r"[a-z0-9]+(-[a-z0-9]+)*")
 
 

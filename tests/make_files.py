@@ -1,5 +1,5 @@
 #!/usr/bin/env python3
-"""Makes crates/files/stdin and crates/files/stdout from crates/files/files.txt.
+"""Makes crates/test_files/stdin and crates/test_files/stdout from crates/test_files/files.txt.
 
     python3 tests/make_files.py           write both files
     python3 tests/make_files.py --check   exit 1 if they are not up to date
@@ -20,7 +20,7 @@ import make_cases
 import make_steps
 import model
 
-FILES = pathlib.Path(__file__).resolve().parent.parent / "crates" / "files"
+FILES = pathlib.Path(__file__).resolve().parent.parent / "crates" / "test_files"
 WRITING = ("write", "all")
 
 

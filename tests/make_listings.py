@@ -1,14 +1,14 @@
 #!/usr/bin/env python3
-"""Makes the stored traces tests/listings/NAME.trace and their listings NAME.listing.
+"""Makes the stored traces tests/listings/NAME.trace, with what two programs must write for each.
 
     python3 tests/make_listings.py           write all files
     python3 tests/make_listings.py --check   exit 1 if they are not up to date
-    python3 tests/make_listings.py --model   compare the listings made by hand with tests/model.py
+    python3 tests/make_listings.py --model   compare what was worked out by hand with tests/model.py
 
-tests/listings.txt describes the traces; its head tells its form. Every expected listing
-stands there, worked out by hand, but that of `most-records`, which tests/model.py makes.
-No listing is made by the listing program. tests/run_listings.py runs that program on the
-stored traces.
+NAME.listing is for the program `listing`, and NAME.census for the program `census`.
+tests/listings.txt describes the traces; its head tells its form. All that is expected
+stands there, worked out by hand, but for `most-records`, where tests/model.py makes it.
+Nothing is made by the programs. tests/run_programs.py runs them on the stored traces.
 """
 import pathlib
 import struct
@@ -20,7 +20,8 @@ import model
 
 TESTS = pathlib.Path(__file__).resolve().parent
 FOLDER = TESTS / "listings"
-BY_MODEL = ["the listing of tests/model.py"]
+BY_MODEL = ["made by tests/model.py"]
+MODELS = {"listing": model.listing, "census": model.census}
 
 # All blocks of one column, many more than its four ways, so that lines are swapped out; and
 # a few of other columns, the first and the last block among them.
@@ -108,19 +109,26 @@ class Listing(make_cases.Case):
     def trace(self):
         return super().trace() + self.behind
 
-    def by_hand(self):
-        return self.expected != BY_MODEL
+    def lines(self, program):
+        """The lines behind `gives` that are the program's."""
+        at = self.expected.index("census")
+        return self.expected[:at] if program == "listing" else self.expected[at + 1:]
 
-    def listing(self):
-        return super().listing() if self.by_hand() else model.listing(self.trace())
+    def by_hand(self, program):
+        return self.lines(program) != BY_MODEL
+
+    def output(self, program):
+        """What the program must write."""
+        if not self.by_hand(program):
+            return MODELS[program](self.trace())
+        return "".join(line + "\n" for line in self.lines(program)).encode("ascii")
 
 
 def files(cases):
     """What each file must hold, by name."""
-    wanted = {}
-    for case in cases:
-        wanted[case.name + ".trace"] = case.trace()
-        wanted[case.name + ".listing"] = case.listing()
+    wanted = {case.name + ".trace": case.trace() for case in cases}
+    for program in MODELS:
+        wanted.update({"%s.%s" % (case.name, program): case.output(program) for case in cases})
     return wanted
 
 
@@ -134,11 +142,20 @@ def check(wanted):
     return 1 if stale else 0
 
 
+def differs_from_model(case, program):
+    """Prints both outputs if they differ."""
+    by_hand, found = case.output(program), MODELS[program](case.trace())
+    if found != by_hand:
+        print("== %s.%s\n-- by hand\n%s-- model\n%s" % (
+            case.name, program, by_hand.decode(), found.decode()))
+    return found != by_hand
+
+
 def compare(cases):
     """Compares what was worked out by hand with the model."""
-    by_hand = [case for case in cases if case.by_hand()]
-    wrong = sum(make_cases.differs_from_model(case) for case in by_hand)
-    print("%d listings by hand, %d differ from the model" % (len(by_hand), wrong))
+    by_hand = [(case, program) for case in cases for program in MODELS if case.by_hand(program)]
+    wrong = sum(differs_from_model(*each) for each in by_hand)
+    print("%d outputs by hand, %d differ from the model" % (len(by_hand), wrong))
     return 1 if wrong else 0
 
 

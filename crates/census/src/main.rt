@@ -1,46 +1,12 @@
-// Runs the trace on standard input on the cluster of the listing program. Prints how many lines of each processor are
-// then in each state, and what a drain writes back.
+// Writes the census of the run of the trace on standard input. The bytes are made by the library;
+// here they are only read and written.
 #![tactic(auto)]
 
-mod lines;
-mod report;
-
-use lines::put_report;
-use memory::word_table::WordTable;
+use counting::counting::count;
 use parts::reading::read_all;
-use protocol::geometry::Geometry;
-use report::{geometry_of, take_census};
-use run::board::Board;
-use run::listing::{MEMORY_WORDS, MOST_READ};
-use std::alloc::{AllocError, Global};
+use run::listing::MOST_READ;
 use std::io;
 use std::io::{Read, Write};
-use text::lines::put_refusal;
-
-// The census of a run over a new cluster and zero words.
-fn put_census(
-    heap: Global,
-    out: &mut Vec<u8>,
-    geometry: Geometry,
-    input: &[u8],
-) -> Result<(), AllocError> {
-    let mut board = Board::new(heap, geometry)?;
-    let mut words = [0; MEMORY_WORDS];
-    let mut memory = WordTable::new(&mut words);
-    match take_census(&mut board, &mut memory, input) {
-        Ok(report) => put_report(out, &report),
-        Err(refusal) => put_refusal(out, refusal),
-    }
-}
-
-fn count(heap: Global, input: &[u8]) -> Result<Vec<u8>, AllocError> {
-    let mut out = Vec::new(heap);
-    match geometry_of(input) {
-        Ok(geometry) => put_census(heap, &mut out, geometry, input)?,
-        Err(refusal) => put_refusal(&mut out, refusal)?,
-    }
-    Ok(out)
-}
 
 fn main(rt: HostRuntime) -> io::Result<()> {
     let heap = rt.alloc();
@@ -50,7 +16,8 @@ fn main(rt: HostRuntime) -> io::Result<()> {
 
 #[cfg(test)]
 mod tests {
-    use super::*;
+    use protocol::geometry::Geometry;
+    use run::board::Board;
     use std::test::Fail;
 
     #[test]

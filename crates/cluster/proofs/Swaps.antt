@@ -18,6 +18,8 @@ untouched : (m : Mem) (block : ℕ) (words : List ℕ) → grants m block ≡ fa
 untouched m block words e i =
     record { count = m.count; live = m.live; words = λ k. cond (e i && eqb k block) words (m.words k) }
 
-pub swap_refused : (m : Mem) (victim : Option Line) (r : Refusal) → Err r ≡ swapped_out m victim → memory_after m victim ≡ m
+pub swap_refused : (m : Mem) (victim : Option Line) (r : Refusal) → Err r ≡ swapped_out m victim
+    → memory_after m victim ≡ m
 swap_refused m None r e = refl
-swap_refused m (Some line) r e = untouched m line.block line.words (denied (grants m line.block) line.block r e)
+swap_refused m (Some line) r e =
+    untouched m line.block line.words (denied (grants m line.block) line.block r e)

@@ -11,7 +11,8 @@ waits_more n [] p block q k h e = omega arith
 waits_more zero (x ∷ xs) p block q k h e = omega arith
 waits_more (suc n) (x ∷ xs) zero block q k h e = rw e (omega arith)
 waits_more (suc n) (x ∷ xs) (suc p) block q k h e =
-    let less : idle n (set xs p (waiting_for q block)) < idle n xs = waits_more n xs p block q (omega arith) (omega arith) e in
+    let less : idle n (set xs p (waiting_for q block)) < idle n xs =
+    waits_more n xs p block q (omega arith) (omega arith) e in
     omega arith
 
 all_idle : (ps : List Processor) → not_waiting ps ≡ idle (length ps) ps
@@ -19,6 +20,8 @@ all_idle [] = refl
 all_idle (p ∷ ps) = ap (λ n. cond (is_some p.waits_for) 0 1 + n) (all_idle ps)
 
 pub waits_more_of_all : (ps : List Processor) (p block : ℕ) (q : Processor) → p < length ps
-    → (get_or ps p resting).waits_for ≡ None → not_waiting (set ps p (waiting_for q block)) < not_waiting ps
+    → (get_or ps p resting).waits_for ≡ None
+    → not_waiting (set ps p (waiting_for q block)) < not_waiting ps
 waits_more_of_all ps p block q h e =
-    rw (all_idle (set ps p (waiting_for q block)), all_idle ps, length-set ps p (waiting_for q block)) (waits_more (length ps) ps p block q h h e)
+    rw (all_idle (set ps p (waiting_for q block)), all_idle ps, length-set ps p (waiting_for q block))
+    (waits_more (length ps) ps p block q h h e)

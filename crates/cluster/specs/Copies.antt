@@ -13,7 +13,8 @@ holds_block block = lies_in (λ l. valid l.state) (λ l. l.block) block block
 -- the first line of the processor's window that has the block
 abbrev pub line_of : Measures → List Line → ℕ → ℕ → Option ℕ
 line_of m lines processor block =
-    let start = window_start m processor block in first_in (holds_block block) start (window_of start m.ways lines)
+    let start = window_start m processor block in
+    first_in (holds_block block) start (window_of start m.ways lines)
 
 -- the line at a place, or a blank one
 abbrev pub line_at : List Line → Option ℕ → Line
@@ -24,7 +25,8 @@ abbrev pub has_copy : Measures → List Line → ℕ → ℕ → Bool
 has_copy m lines block processor = is_some (line_of m lines processor block)
 
 abbrev pub other_copy : Measures → List Line → ℕ → ℕ → ℕ → Bool
-other_copy m lines asking block processor = not (processor == asking) && has_copy m lines block processor
+other_copy m lines asking block processor =
+    not (processor == asking) && has_copy m lines block processor
 
 -- the lowest processor but the asking one that has the block
 abbrev pub supplier_of : Measures → List Line → ℕ → ℕ → Option ℕ

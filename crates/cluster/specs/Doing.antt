@@ -1,5 +1,5 @@
--- What a command that is not refused with 2 to 10 does: lock hit, the block's words, the swap-out, the cycles.
-use Rattle.std.specs.Prelude.{ℕ, ◌+◌, Bool, true, false, cond, not, ◌&&◌, List, Some, None, Ok, Err, Option, Result, slice_index_or}
+-- What a command not refused with 2 to 10 does: lock hit, the block's words, swap-out, cycles.
+use Rattle.std.specs.Prelude.{ℕ, ◌+◌, Bool, true, false, if◌then◌else◌, not, ◌&&◌, List, Some, None, Ok, Err, Option, Result, slice_index_or}
 use Rattle.protocol.specs.declared.answer.Supplier.{Supplier}
 use Rattle.protocol.specs.declared.answer.Supplier.TheVariants.{Memory, Cache}
 use Rattle.protocol.specs.declared.command.Action.{Action}
@@ -37,7 +37,10 @@ invalidates (Some I) = true
 
 -- where F, FI or LK is sent, another processor's lock in the block makes the command wait
 abbrev pub lock_hit : Case → Option ℕ
-lock_hit c = cond (asks_for_block c.effect.bus) c.holder (cond c.effect.lk c.holder None)
+lock_hit c =
+    if asks_for_block c.effect.bus then c.holder
+    else if c.effect.lk then c.holder
+    else None
 
 -- every command that found I takes a way, except U
 abbrev pub is_unlock : Action → Bool
@@ -58,12 +61,13 @@ abbrev pub supplied_by : Measures → List Line → Mem → ℕ → Option ℕ �
 supplied_by m lines mem block (Some q) =
     Ok (record { words = (line_at lines (line_of m lines q block)).words; from = Some (Cache q) })
 supplied_by m lines mem block None =
-    cond (grants mem block) (Ok (record { words = mem.words block; from = Some Memory })) (Err (RefusedByMemory block Read))
+    if grants mem block then Ok (record { words = mem.words block; from = Some Memory })
+    else Err (RefusedByMemory block Read)
 
 abbrev pub supplied : Measures → List Line → Mem → Case → Result Supply Refusal
 supplied m lines mem c =
-    cond (asks_for_block c.effect.bus) (supplied_by m lines mem c.block c.copy)
-    (Ok (record { words = (line_at lines c.place).words; from = None }))
+    if asks_for_block c.effect.bus then supplied_by m lines mem c.block c.copy
+    else Ok (record { words = (line_at lines c.place).words; from = None })
 
 abbrev pub state_left : Effect → Option Supplier → State
 state_left e None = e.from_memory
@@ -74,12 +78,13 @@ state_left e (Some (Cache q)) = e.from_cache
 abbrev pub victim_of : List Line → Option Taken → Option Line
 victim_of lines None = None
 victim_of lines (Some way) =
-    let line = slice_index_or lines way.place no_line in cond (modified line.state) (Some line) None
+    let line = slice_index_or lines way.place no_line in
+    if modified line.state then Some line else None
 
 abbrev pub swapped_out : Mem → Option Line → Result (Option ℕ) Refusal
 swapped_out mem None = Ok None
 swapped_out mem (Some line) =
-    cond (grants mem line.block) (Ok (Some line.block)) (Err (RefusedByMemory line.block Write))
+    if grants mem line.block then Ok (Some line.block) else Err (RefusedByMemory line.block Write)
 
 abbrev pub memory_after : Mem → Option Line → Mem
 memory_after mem None = mem
@@ -93,5 +98,7 @@ supply_cost c (Some (Cache q)) = c.transfer
 -- what took place: swap-out, transfer or swap-in, invalidation, lock signal
 abbrev pub cycles_for : Costs → Option Supplier → Option BusCommand → Bool → Bool → ℕ
 cycles_for c from bus swapped ul =
-    cond swapped c.swap_out 0 + supply_cost c from + cond (invalidates bus) c.invalidation 0
-    + cond ul c.lock_signal 0
+    (if swapped then c.swap_out else 0)
+    + supply_cost c from
+    + (if invalidates bus then c.invalidation else 0)
+    + (if ul then c.lock_signal else 0)

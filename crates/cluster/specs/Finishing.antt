@@ -1,5 +1,5 @@
 -- What a done command leaves and answers.
-use Rattle.std.specs.Prelude.{ℕ, cond, List, is_some, Some, None, Option, slice_index_or, slice_set}
+use Rattle.std.specs.Prelude.{ℕ, if◌then◌else◌, List, is_some, Some, None, Option, slice_index_or, slice_set}
 use Rattle.protocol.specs.declared.answer.Completion.{Completion}
 use Rattle.protocol.specs.declared.command.BusCommand.{BusCommand}
 use Rattle.protocol.specs.declared.line.Line.{Line}
@@ -22,7 +22,8 @@ use Rattle.cluster.specs.Ways.{taken_way}
 -- the way that the command takes, if it takes one
 abbrev pub way_taken : Measures → List Processor → List Line → Case → Option Taken
 way_taken m ps lines c =
-    cond (takes_way c) (Some (taken_way m lines c.processor c.block (slice_index_or ps c.processor resting).turn)) None
+    let turn = (slice_index_or ps c.processor resting).turn in
+    if takes_way c then Some (taken_way m lines c.processor c.block turn) else None
 
 abbrev pub bus_seen : Measures → Option BusCommand → ℕ → ℕ → List Line → List Line
 bus_seen m None asking block lines = lines
@@ -36,16 +37,19 @@ placed (Some place) line lines = slice_set lines place line
 abbrev pub copy_left : Case → Supply → Line
 copy_left c s =
     let left = state_left c.effect s.from in
-    in_state (record { state = left; block = c.block; words = words_left c.command c.address s.words }) left
+    let words = words_left c.command c.address s.words in
+    in_state (record { state = left; block = c.block; words = words }) left
 
 abbrev pub lines_after : Measures → List Line → Case → Supply → Option Taken → List Line
 lines_after m lines c s taken =
-    placed (own_place c.place taken) (copy_left c s) (bus_seen m c.effect.bus c.processor c.block lines)
+    placed (own_place c.place taken) (copy_left c s)
+    (bus_seen m c.effect.bus c.processor c.block lines)
 
 abbrev pub turns_after : Measures → List Processor → Case → Option Taken → List Processor
-turns_after m ps c taken = cond (by_turn taken) (turn_raised m.ways ps c.processor) ps
+turns_after m ps c taken = if by_turn taken then turn_raised m.ways ps c.processor else ps
 
-abbrev pub processors_after : Measures → List Processor → List LockEntry → Case → Option Taken → List Processor
+abbrev pub processors_after : Measures → List Processor → List LockEntry → Case → Option Taken
+    → List Processor
 processors_after m ps locks c taken =
     woken_by (ul_sent c.command locks c.entry) c.block (turns_after m ps c taken)
 

@@ -2,6 +2,7 @@ pub mod Cases
 pub mod Copies
 pub mod Locks
 pub mod Making
+pub mod Board
 pub mod Snooping
 pub mod Tables
 pub mod Waiting

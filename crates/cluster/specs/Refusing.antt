@@ -1,5 +1,5 @@
--- Refusals 3 to 10 of a command, in their order, and what a command meets that none of them refuses.
-use Rattle.std.specs.Prelude.{ℕ, ◌*◌, ◌/◌, Bool, true, false, cond, not, ◌&&◌, ◌||◌, List, [], ◌∷◌, is_some, Some, None, Ok, Err, Option, Result, nat_le, slice_index_or}
+-- Refusals 3 to 10 of a command, in their order, and what one meets that none of them refuses.
+use Rattle.std.specs.Prelude.{ℕ, ◌*◌, ◌/◌, Bool, true, false, if◌then◌else◌, not, ◌&&◌, ◌||◌, List, [], ◌∷◌, is_some, Some, None, Ok, Err, Option, Result, nat_le, slice_index_or}
 use Rattle.protocol.specs.declared.command.Action.{Action}
 use Rattle.protocol.specs.declared.command.Action.TheVariants.{R, W, DW, RI, RP, LR, UW, U}
 use Rattle.protocol.specs.declared.command.Request.{Request}
@@ -21,9 +21,10 @@ use Rattle.cluster.specs.Making.{resting}
 use Rattle.cluster.specs.Settling.{takes_lock, releases_lock}
 
 -- the first test that holds gives the refusal
-abbrev pub unless_refused : {X : Type 0} → List (Bool × Refusal) → Result X Refusal → Result X Refusal
+abbrev pub unless_refused : {X : Type 0} → List (Bool × Refusal) → Result X Refusal
+    → Result X Refusal
 unless_refused [] answer = answer
-unless_refused (test ∷ tests) answer = cond test.0 (Err test.1) (unless_refused tests answer)
+unless_refused (test ∷ tests) answer = if test.0 then Err test.1 else unless_refused tests answer
 
 abbrev pub is_direct_write : Action → Bool
 is_direct_write R = false
@@ -54,8 +55,9 @@ lock_tests m locks q =
 -- LR uses its lowest empty entry, a release the first entry with the address
 abbrev pub entry_used : Measures → List LockEntry → Request → Option ℕ
 entry_used m locks q =
-    cond (takes_lock q.command) (free_entry m locks q.processor)
-    (cond (releases_lock q.command) (held_entry m locks q.processor q.address) None)
+    if takes_lock q.command then free_entry m locks q.processor
+    else if releases_lock q.command then held_entry m locks q.processor q.address
+    else None
 
 -- 10 where the cell says so
 abbrev pub unless_checked : State → Option Effect → (Effect → Case) → Result Case Refusal
@@ -63,7 +65,8 @@ unless_checked found None case = Err (Checked found)
 unless_checked found (Some effect) case = Ok (case effect)
 
 -- 9 and 10, and else what the command meets
-abbrev pub case_met : Measures → List Line → List LockEntry → Request → Option ℕ → Result Case Refusal
+abbrev pub case_met : Measures → List Line → List LockEntry → Request → Option ℕ
+    → Result Case Refusal
 case_met m lines locks q entry =
     let block = q.address / 4 in
     let place = line_of m lines q.processor block in
@@ -71,7 +74,8 @@ case_met m lines locks q entry =
     let copy = supplier_of m lines q.processor block in
     let holder = holder_of m locks q.processor block in
     let action = acts_as q.command q.address found (is_some copy) in
-    unless_refused ((is_direct_write action && not (valid found) && (is_some copy || is_some holder), CopyElsewhere) ∷ [])
+    let elsewhere = is_some copy || is_some holder in
+    unless_refused ((is_direct_write action && not (valid found) && elsewhere, CopyElsewhere) ∷ [])
     (unless_checked found (cell_of action found)
     (λ effect. record {
       processor = q.processor;
@@ -87,7 +91,8 @@ case_met m lines locks q entry =
       entry = entry;
     }))
 
-abbrev pub case_of : Measures → List Processor → List Line → List LockEntry → ℕ → Request → Result Case Refusal
+abbrev pub case_of : Measures → List Processor → List Line → List LockEntry → ℕ → Request
+    → Result Case Refusal
 case_of m ps lines locks blocks q =
     unless_refused (admission m ps blocks q)
     (unless_refused (lock_tests m locks q) (case_met m lines locks q (entry_used m locks q)))

@@ -1,5 +1,5 @@
 -- Lock entries after a done command.
-use Rattle.std.specs.Prelude.{ℕ, Bool, true, false, cond, not, ◌&&◌, List, Some, None, Option, slice_index_or, slice_set}
+use Rattle.std.specs.Prelude.{ℕ, Bool, true, false, if◌then◌else◌, not, ◌&&◌, List, Some, None, Option, slice_index_or, slice_set}
 use Rattle.protocol.specs.declared.command.Command.{Command}
 use Rattle.protocol.specs.declared.command.Command.TheVariants.{R, W, DW, RI, RP, RB, LR, UW, U}
 use Rattle.protocol.specs.declared.lock.LockEntry.{LockEntry}
@@ -37,13 +37,15 @@ locked_at address = record { state = L; address = address }
 -- LR writes its address as L into its entry; a release empties its entry; other commands have none
 abbrev pub locks_settled : Command → ℕ → List LockEntry → Option ℕ → List LockEntry
 locks_settled command address locks None = locks
-locks_settled command address locks (Some place) = slice_set locks place (cond (takes_lock command) (locked_at address) blank_entry)
+locks_settled command address locks (Some place) =
+    slice_set locks place (if takes_lock command then locked_at address else blank_entry)
 
 -- UL is sent where the entry that is emptied was LW
 abbrev pub ul_sent : Command → List LockEntry → Option ℕ → Bool
 ul_sent command locks None = false
-ul_sent command locks (Some place) = not (takes_lock command) && somebody_waits (slice_index_or locks place blank_entry)
+ul_sent command locks (Some place) =
+    not (takes_lock command) && somebody_waits (slice_index_or locks place blank_entry)
 
 -- with UL, all who wait for the block stop waiting
 abbrev pub woken_by : Bool → ℕ → List Processor → List Processor
-woken_by ul block ps = cond ul (all_woken block ps) ps
+woken_by ul block ps = if ul then all_woken block ps else ps

@@ -1,5 +1,5 @@
 -- Which processors wait.
-use Rattle.std.specs.Prelude.{◌≡◌, ℕ, zero, suc, ◌+◌, ◌%◌, ◌<◌, Bool, false, cond, List, [], ◌∷◌, length, get_or, is_some, Some, None, Ok, Err, Option, Result, ◌==◌, nat_lt, slice_index_or, slice_set}
+use Rattle.std.specs.Prelude.{◌≡◌, ℕ, zero, suc, ◌+◌, ◌%◌, ◌<◌, Bool, false, if◌then◌else◌, List, [], ◌∷◌, length, get_or, is_some, Some, None, Ok, Err, Option, Result, ◌==◌, nat_lt, slice_index_or, slice_set}
 use Rattle.protocol.specs.declared.answer.Answer.{Answer}
 use Rattle.protocol.specs.declared.answer.Answer.TheVariants.{Done, Wait}
 use Rattle.protocol.specs.declared.measures.Measures.{Measures}
@@ -11,7 +11,8 @@ use Rattle.cluster.specs.Tables.{map_from}
 
 -- the block that a processor waits for; one that the geometry does not have never waits
 abbrev pub awaited_in : Measures → List Processor → ℕ → Option ℕ
-awaited_in m ps processor = cond (nat_lt processor m.processors) (get_or ps processor resting).waits_for None
+awaited_in m ps processor =
+    if nat_lt processor m.processors then (get_or ps processor resting).waits_for else None
 
 abbrev pub awaited : Cluster → ℕ → Option ℕ
 awaited c processor = awaited_in c.geometry.measures c.processors processor
@@ -23,13 +24,13 @@ pub record Ready (ps : List Processor) (processor : ℕ) : Type 0 where
 -- how many do not wait
 abbrev pub not_waiting : List Processor → ℕ
 not_waiting [] = 0
-not_waiting (p ∷ ps) = cond (is_some p.waits_for) 0 1 + not_waiting ps
+not_waiting (p ∷ ps) = (if is_some p.waits_for then 0 else 1) + not_waiting ps
 
 -- how many of the first n do not wait
 abbrev pub idle : ℕ → List Processor → ℕ
 idle zero ps = 0
 idle (suc n) [] = 0
-idle (suc n) (p ∷ ps) = cond (is_some p.waits_for) 0 1 + idle n ps
+idle (suc n) (p ∷ ps) = (if is_some p.waits_for then 0 else 1) + idle n ps
 
 abbrev pub waiting_for : Processor → ℕ → Processor
 waiting_for p block = record { turn = p.turn; waits_for = Some block }
@@ -39,7 +40,8 @@ waits_for block None = false
 waits_for block (Some awaits) = awaits == block
 
 abbrev pub woken : ℕ → Processor → Processor
-woken block p = cond (waits_for block p.waits_for) (record { turn = p.turn; waits_for = None }) p
+woken block p =
+    if waits_for block p.waits_for then record { turn = p.turn; waits_for = None } else p
 
 -- every processor that waits for the block stops waiting
 abbrev pub all_woken : ℕ → List Processor → List Processor
@@ -50,7 +52,8 @@ abbrev pub raised : ℕ → Processor → Processor
 raised ways p = record { turn = (p.turn % ways + 1) % ways; waits_for = p.waits_for }
 
 abbrev pub turn_raised : ℕ → List Processor → ℕ → List Processor
-turn_raised ways ps processor = slice_set ps processor (raised ways (slice_index_or ps processor resting))
+turn_raised ways ps processor =
+    slice_set ps processor (raised ways (slice_index_or ps processor resting))
 
 -- a command that waits leaves fewer processors that do not
 abbrev pub WaitsMore : Result Answer Refusal → List Processor → List Processor → Type 0

@@ -7,8 +7,6 @@ use Rattle.protocol.specs.declared.answer.Supplier.TheVariants.{Memory, Cache}
 use Rattle.protocol.specs.declared.command.Command.{Command}
 use Rattle.protocol.specs.declared.command.Command.TheVariants.{R, W, DW, RP, LR, U}
 use Rattle.protocol.specs.declared.command.Request.{Request}
-use Rattle.protocol.specs.declared.line.Line.{Line}
-use Rattle.protocol.specs.declared.lock.LockEntry.{LockEntry}
 use Rattle.protocol.specs.declared.measures.Measures.{Measures}
 use Rattle.protocol.specs.declared.refusal.Refusal.{Refusal}
 use Rattle.protocol.specs.declared.refusal.Refusal.TheVariants.{Address, Waiting, LockHeld, NoLockEntry, MachineCheck}
@@ -16,34 +14,31 @@ use Rattle.protocol.specs.declared.state.State.{State}
 use Rattle.protocol.specs.declared.state.State.TheVariants.{I, S, SM, EC, EM}
 use Rattle.protocol.specs.Limits.{lawful}
 use Rattle.protocol.specs.Lines.{blank_line}
-use Rattle.protocol.specs.Places.{line_count, lock_count}
 use Rattle.protocol.specs.Standard.{standard_costs, with_columns}
-use Rattle.memory.specs.Meaning.{Mem}
 use Rattle.memory.specs.Words.{table_of}
-use Rattle.cluster.specs.declared.cluster.Processor.{Processor}
-use Rattle.cluster.specs.Making.{all_resting, blank_entry}
-use Rattle.cluster.specs.Rule.{Outcome, command_rule}
+use Rattle.cluster.specs.Board.{Board, Outcome, new_board}
+use Rattle.cluster.specs.Rule.{command_rule}
 
 -- two processors with one line and one lock entry each
 abbrev pub two : Measures
 two = record { processors = 2; columns = 1; ways = 1; lock_entries = 1; costs = standard_costs }
 
 abbrev pub by : ℕ → Command → ℕ → Request
-by processor command address = record { processor = processor; command = command; address = address }
+by processor command address =
+    record { processor = processor; command = command; address = address }
 
 -- each command starts from what the one before left
-abbrev pub play_from : List Processor → List Line → List LockEntry → Mem → List Request → List Outcome
-play_from ps lines locks mem [] = []
-play_from ps lines locks mem (q ∷ qs) =
-    let o = command_rule two ps lines locks mem q in o ∷ play_from o.processors o.lines o.locks o.memory qs
+abbrev pub play_from : Board → List Request → List (Outcome Answer)
+play_from b [] = []
+play_from b (q ∷ qs) = let o = command_rule two b q in o ∷ play_from o.board qs
 
 -- a new cluster over sixteen zero words
-abbrev pub play : List Request → List Outcome
-play qs =
-    play_from all_resting (replicate (line_count two) blank_line) (replicate (lock_count two) blank_entry) (table_of (replicate 16 0)) qs
+abbrev pub play : List Request → List (Outcome Answer)
+play qs = play_from (new_board two (table_of (replicate 16 0))) qs
 
 pub data Told : Type 0 where
-  Did : (word : ℕ) (left : State) (supplier : Option Supplier) (swapped : Option ℕ) (ul : Bool) (cycles : ℕ) → Told
+  Did : (word : ℕ) (left : State) (supplier : Option Supplier) (swapped : Option ℕ)
+      (ul : Bool) (cycles : ℕ) → Told
   Waits : (holder : ℕ) → Told
   Refused : Refusal → Told
 
@@ -56,8 +51,8 @@ abbrev pub told : List Request → List Told
 told qs = map (λ o. tell o.answer) (play qs)
 
 -- the state of processor 0's line after each command
-abbrev pub first_line : Outcome → State
-first_line o = (slice_index_or o.lines 0 blank_line).state
+abbrev pub first_line : Outcome Answer → State
+first_line o = (slice_index_or o.board.lines 0 blank_line).state
 
 abbrev pub from_memory : ℕ → State → Told
 from_memory word left = Did word left (Some Memory) None false 13
@@ -66,14 +61,16 @@ abbrev pub silent : ℕ → State → Told
 silent word left = Did word left None None false 0
 
 pub record WorkedCases : Type 0 where
-  pub end_of_memory : told (by 0 R 15 ∷ (by 0 R 16 ∷ [])) ≡ from_memory 0 EC ∷ (Refused Address ∷ [])
+  pub end_of_memory : told (by 0 R 15 ∷ (by 0 R 16 ∷ []))
+      ≡ from_memory 0 EC ∷ (Refused Address ∷ [])
   pub written_then_shared : told (by 0 (W 5) 0 ∷ (by 1 R 0 ∷ []))
       ≡ from_memory 0 EM ∷ (Did 5 S (Some (Cache 0)) None false 7 ∷ [])
   pub supplier_keeps_sm : map first_line (play (by 0 (W 5) 0 ∷ (by 1 R 0 ∷ []))) ≡ EM ∷ (SM ∷ [])
   pub swapped_out : told (by 0 R 0 ∷ (by 0 (W 5) 0 ∷ (by 0 R 4 ∷ [])))
       ≡ from_memory 0 EC ∷ (silent 0 EM ∷ (Did 0 EC (Some Memory) (Some 0) false 18 ∷ []))
   pub direct_write : told (by 0 (DW 5) 0 ∷ (by 0 R 1 ∷ [])) ≡ silent 0 EM ∷ (silent 0 EM ∷ [])
-  pub direct_write_twice : told (by 0 (DW 0) 0 ∷ (by 0 (DW 0) 0 ∷ [])) ≡ silent 0 EM ∷ (Refused (MachineCheck EM) ∷ [])
+  pub direct_write_twice : told (by 0 (DW 0) 0 ∷ (by 0 (DW 0) 0 ∷ []))
+      ≡ silent 0 EM ∷ (Refused (MachineCheck EM) ∷ [])
   pub waits_and_wakes : told (by 0 LR 0 ∷ (by 1 R 3 ∷ (by 1 R 8 ∷ (by 0 U 0 ∷ []))))
       ≡ from_memory 0 EC ∷ (Waits 0 ∷ (Refused Waiting ∷ (Did 0 EM None None true 2 ∷ [])))
   pub entries_run_out : told (by 0 LR 0 ∷ (by 0 LR 1 ∷ (by 0 LR 0 ∷ [])))

@@ -27,10 +27,11 @@ impl Cluster {
 }
 
 impl<'a> View<'a> {
-    // The lowest processor but the asking one that has the block. By a labelled break out of processors and ways: so this
-    // project asks (docs/DECISIONS.md).
+    // The lowest processor but the asking one that has the block, by a labelled break out of
+    // processors and ways (docs/DECISIONS.md).
     pub(crate) fn supplier(&self, asking: u8, block: u32) -> Option<u8>
-        ensures { result ≡ supplier_of self.now.cluster.now.geometry.measures self.now.lines.now asking block }
+        ensures { let measures = self.now.cluster.now.geometry.measures in
+            result ≡ supplier_of measures self.now.lines.now asking block }
     {
         let mut holder = None;
         'caches: for p in 0..self.cluster.geometry.processors() {

@@ -17,8 +17,9 @@ use protocol::state::State;
 use protocol::table::{Effect, look_up};
 
 // That a place lies in its table is asked where it is used, since the tables are not the case's.
-// `place` is the line found in the own cache, `entry` the lock entry that is written or emptied,
-// `copy` the supplier and `holder` the lowest other processor with a lock in the block.
+/// What a command meets that is not refused with 2 to 10. `place` is the line found in the own
+/// cache, `entry` the lock entry that is written or emptied, `copy` the supplier, and `holder` the
+/// lowest other processor with a lock in the block.
 #[derive(Clone, Copy)]
 pub struct Case {
     pub processor: u8,
@@ -76,7 +77,9 @@ fn is_direct_write(action: Action) -> bool
 impl Cluster {
     // The lock entry that the command writes or empties: refusals 6, 7 and 8.
     fn entry_for(&self, locks: &[LockEntry], request: Request) -> Result<Option<usize>, Refusal>
-        ensures value { result ≡ unless_refused (lock_tests self.now.geometry.measures locks.now request) (Ok (entry_used self.now.geometry.measures locks.now request)) }
+        ensures value { let tests = lock_tests self.now.geometry.measures locks.now request in
+            let entry = entry_used self.now.geometry.measures locks.now request in
+            result ≡ unless_refused tests (Ok entry) }
         ensures within { IfOk result (λ e. IfSome e (λ i. i < length locks.now)) }
     {
         let held = self.held_entry(locks, request.processor, request.address);
@@ -94,7 +97,9 @@ impl Cluster {
 
     // Refusals 3, 4 and 5.
     fn admit(&self, blocks: u32, request: Request) -> Result<(), Refusal>
-        ensures value { result ≡ unless_refused (admission self.now.geometry.measures self.now.processors blocks request) (Ok tt) }
+        ensures value { let measures = self.now.geometry.measures in
+            let tests = admission measures self.now.processors blocks request in
+            result ≡ unless_refused tests (Ok tt) }
         ensures known { OnOk result (request.processor < self.now.geometry.measures.processors) }
         ensures ready { OnOk result (Ready self.now.processors request.processor) }
     {
@@ -117,8 +122,11 @@ impl<'a> View<'a> {
     fn case_met(&self, request: Request, entry: Option<usize>) -> Result<Case, Refusal>
         requires known { request.processor < self.now.cluster.now.geometry.measures.processors }
         requires entry { IfSome entry (λ i. i < length self.now.locks.now) }
-        ensures value { result ≡ case_met self.now.cluster.now.geometry.measures self.now.lines.now self.now.locks.now request entry }
-        ensures sound { IfOk result (λ case. Sound self.now.cluster.now.geometry.measures (length self.now.lines.now) (length self.now.locks.now) case) }
+        ensures value { let measures = self.now.cluster.now.geometry.measures in
+            result ≡ case_met measures self.now.lines.now self.now.locks.now request entry }
+        ensures sound { let measures = self.now.cluster.now.geometry.measures in
+            let lines = length self.now.lines.now in
+            IfOk result (λ case. Sound measures lines (length self.now.locks.now) case) }
         ensures same { IfOk result (λ case. case.processor ≡ request.processor) }
     {
         let block = request.address / 4;
@@ -149,8 +157,13 @@ impl<'a> View<'a> {
     }
 
     pub(crate) fn case_of(&self, blocks: u32, request: Request) -> Result<Case, Refusal>
-        ensures value { result ≡ case_of self.now.cluster.now.geometry.measures self.now.cluster.now.processors self.now.lines.now self.now.locks.now blocks request }
-        ensures sound { IfOk result (λ case. Sound self.now.cluster.now.geometry.measures (length self.now.lines.now) (length self.now.locks.now) case) }
+        ensures value { let measures = self.now.cluster.now.geometry.measures in
+            let processors = self.now.cluster.now.processors in
+            let lines = self.now.lines.now in
+            result ≡ case_of measures processors lines self.now.locks.now blocks request }
+        ensures sound { let measures = self.now.cluster.now.geometry.measures in
+            let lines = length self.now.lines.now in
+            IfOk result (λ case. Sound measures lines (length self.now.locks.now) case) }
         ensures ready { IfOk result (λ case. Ready self.now.cluster.now.processors case.processor) }
     {
         self.cluster.admit(blocks, request)?;

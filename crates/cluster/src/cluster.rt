@@ -3,7 +3,8 @@ ghost use Rattle.std.specs.Prelude.{◌≡◌, length};
 
 use protocol::geometry::Geometry;
 
-// The way that is replaced next in a full column, and the block that the processor waits for.
+/// What the cluster keeps of a processor: its turn, which names the way that is replaced next in a
+/// full column, and the number of the block that it waits for, if any.
 #[derive(Clone, Copy)]
 pub struct Processor {
     pub turn: usize,
@@ -11,13 +12,15 @@ pub struct Processor {
 }
 
 impl Processor {
+    /// Turn 0, waiting for nothing.
     pub const AT_REST: Processor = Processor {
         turn: 0,
         waits_for: None,
     };
 }
 
-// That a call keeps the geometry is a clause of each, since an invariant sees one value and not two.
+/// A cluster: its geometry and a record for each of eight processors, of which it uses as many as
+/// its geometry has. The line table and the lock table are lent to each call.
 #[derive(Clone, Copy)]
 pub struct Cluster {
     pub(crate) geometry: Geometry,

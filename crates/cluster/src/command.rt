@@ -2,6 +2,7 @@
 ghost use Rattle.std.specs.Prelude.{◌≡◌, ◌≤◌, length, IfOk, if◌then◌else◌, Ok, Err, ◌==◌};
 ghost use Rattle.protocol.specs.Answers.{cycles_in};
 ghost use Rattle.protocol.specs.Places.{line_count, lock_count};
+ghost use Rattle.cluster.specs.Board.{board_of};
 ghost use Rattle.cluster.specs.Making.{tables_fit};
 ghost use Rattle.cluster.specs.Rule.{command_rule};
 ghost use Rattle.cluster.specs.Waiting.{WaitsMore, FewerIdle};
@@ -17,9 +18,11 @@ use protocol::lock::LockEntry;
 use protocol::refusal::Refusal;
 
 impl Cluster {
-    // Refuses a line table of wrong length with 2.
+    /// Checks that a line table has processors x columns x ways lines. Refuses another length with
+    /// 2.
     pub fn check_lines(&self, lines: &[Line]) -> Result<(), Refusal>
-        ensures { result ≡ (if length lines.now == line_count self.now.geometry.measures then Ok tt else Err Refusal.TableLength) }
+        ensures { let fits = length lines.now == line_count self.now.geometry.measures in
+            result ≡ (if fits then Ok tt else Err Refusal.TableLength) }
     {
         if lines.len() != self.geometry.line_count() {
             return Err(Refusal::TableLength);
@@ -27,9 +30,11 @@ impl Cluster {
         Ok(())
     }
 
-    // Refuses a lock table of wrong length with 2.
+    /// Checks that a lock table has processors x lock entries entries. Refuses another length with
+    /// 2.
     pub fn check_locks(&self, locks: &[LockEntry]) -> Result<(), Refusal>
-        ensures { result ≡ (if length locks.now == lock_count self.now.geometry.measures then Ok tt else Err Refusal.TableLength) }
+        ensures { let fits = length locks.now == lock_count self.now.geometry.measures in
+            result ≡ (if fits then Ok tt else Err Refusal.TableLength) }
     {
         if locks.len() != self.geometry.lock_count() {
             return Err(Refusal::TableLength);
@@ -37,15 +42,24 @@ impl Cluster {
         Ok(())
     }
 
+    /// Checks the lengths of both tables. Refuses a wrong one with 2.
     pub fn check_tables(&self, lines: &[Line], locks: &[LockEntry]) -> Result<(), Refusal>
-        ensures { result ≡ (if tables_fit self.now.geometry.measures (length lines.now) (length locks.now) then Ok tt else Err Refusal.TableLength) }
+        ensures { let measures = self.now.geometry.measures in
+            let fits = tables_fit measures (length lines.now) (length locks.now) in
+            result ≡ (if fits then Ok tt else Err Refusal.TableLength) }
     {
         self.check_lines(lines)?;
         self.check_locks(locks)
     }
 
-    // Issues a command for a processor. The tables and the memory are lent to each call, and each by itself: so this project
-    // asks, and so the contract can say of each what is in it afterwards.
+    // The tables and the memory are lent each by itself, so that the contract can say of each what
+    // is in it afterwards.
+    /// Issues a command for a processor at a word address: answers done, or WAIT where the command
+    /// meets another processor's lock, with their bus cycles. Refuses with 2 to 11 in that order,
+    /// and then nothing changes: a table of wrong length, no such processor, an address beyond
+    /// memory, a processor that waits, a lock that it holds, no empty lock entry, no such lock, a
+    /// direct write where another has a copy or a lock, a machine check, and a block that memory
+    /// refuses.
     pub fn issue<M: Memory>(
         &mut self,
         lines: &mut [Line],
@@ -53,15 +67,16 @@ impl Cluster {
         memory: &mut M,
         request: Request,
     ) -> Result<Answer, Refusal>
-        ensures answer { result ≡ (command_rule self.old.geometry.measures self.old.processors lines.old locks.old (M.Memory.model memory.old) request).answer }
-        ensures processors { self.new.processors ≡ (command_rule self.old.geometry.measures self.old.processors lines.old locks.old (M.Memory.model memory.old) request).processors }
-        ensures lines { lines.new ≡ (command_rule self.old.geometry.measures self.old.processors lines.old locks.old (M.Memory.model memory.old) request).lines }
-        ensures locks { locks.new ≡ (command_rule self.old.geometry.measures self.old.processors lines.old locks.old (M.Memory.model memory.old) request).locks }
-        ensures memory { M.Memory.model memory.new ≡ (command_rule self.old.geometry.measures self.old.processors lines.old locks.old (M.Memory.model memory.old) request).memory }
+        ensures answer { let before = board_of self.old lines.old locks.old (M.model memory.old) in
+            result ≡ (command_rule self.old.geometry.measures before request).answer }
+        ensures board { let before = board_of self.old lines.old locks.old (M.model memory.old) in
+            board_of self.new lines.new locks.new (M.model memory.new)
+            ≡ (command_rule self.old.geometry.measures before request).board }
         ensures geometry { self.new.geometry ≡ self.old.geometry }
-        ensures kept { M.Memory.standing memory.new ≡ M.Memory.standing memory.old }
+        ensures kept { M.standing memory.new ≡ M.standing memory.old }
         ensures waiting { WaitsMore result self.old.processors self.new.processors }
-        ensures idle { FewerIdle self.old.geometry.measures.processors result self.old.processors self.new.processors }
+        ensures idle { let count = self.old.geometry.measures.processors in
+            FewerIdle count result self.old.processors self.new.processors }
         ensures cost { IfOk result (λ a. cycles_in a ≤ 4000) }
     {
         self.check_tables(lines, locks)?;

@@ -23,8 +23,8 @@ pub(crate) fn is_invalidation(bus: Option<BusCommand>) -> bool
     bus == Some(BusCommand::I)
 }
 
-// What took place costs: swap-out, transfer or swap-in, invalidation, lock signal. That it is at most 4000 is a clause of
-// each call that answers it: as an invariant of `Completion` it would be asked of whoever makes one.
+// What took place costs: swap-out, transfer or swap-in, invalidation, lock signal. The bound is a
+// clause of each call: as an invariant of `Completion` it would be asked of whoever makes one.
 pub(crate) fn cycles(
     costs: &Costs,
     from: Option<Supplier>,

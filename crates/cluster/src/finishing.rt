@@ -66,7 +66,9 @@ pub(crate) fn place_copy(lines: &mut [Line], place: Option<usize>, copy: Line)
 impl Cluster {
     // The other caches see the bus command, if one is sent.
     fn see_bus(&self, lines: &mut [Line], case: &Case)
-        ensures { lines.new ≡ bus_seen self.now.geometry.measures case.now.effect.bus case.now.processor case.now.block lines.old }
+        ensures { let bus = case.now.effect.bus in
+            let asking = case.now.processor in
+            lines.new ≡ bus_seen self.now.geometry.measures bus asking case.now.block lines.old }
     {
         if let Some(bus) = case.effect.bus {
             self.snoop_others(lines, case.processor, case.block, bus);
@@ -75,7 +77,8 @@ impl Cluster {
 
     pub(crate) fn raise_turn(&mut self, processor: u8)
         requires { processor < self.old.geometry.measures.processors }
-        ensures processors { self.new.processors ≡ turn_raised self.old.geometry.measures.ways self.old.processors processor }
+        ensures processors { let ways = self.old.geometry.measures.ways in
+            self.new.processors ≡ turn_raised ways self.old.processors processor }
         ensures geometry { self.new.geometry ≡ self.old.geometry }
     {
         let ways = self.geometry.ways();
@@ -86,7 +89,8 @@ impl Cluster {
     // The turn goes on only where it chose the way.
     pub(crate) fn pass_turn(&mut self, case: &Case, taken: Option<Taken>)
         requires { case.now.processor < self.old.geometry.measures.processors }
-        ensures processors { self.new.processors ≡ turns_after self.old.geometry.measures self.old.processors case.now taken }
+        ensures processors { let measures = self.old.geometry.measures in
+            self.new.processors ≡ turns_after measures self.old.processors case.now taken }
         ensures geometry { self.new.geometry ≡ self.old.geometry }
     {
         if chosen_by_turn(taken) {
@@ -94,8 +98,8 @@ impl Cluster {
         }
     }
 
-    // The tables after a command that is not refused and does not wait. `sound` ties the case to the geometry and to the
-    // lengths of tables that are lent to change, which no invariant of `Case` or of a view can hold.
+    // The tables after a command that is not refused and does not wait. `sound` ties the case to
+    // the lengths of tables that are lent to change, which no invariant can hold.
     pub(crate) fn finish(
         &mut self,
         lines: &mut [Line],
@@ -105,12 +109,18 @@ impl Cluster {
         taken: Option<Taken>,
         swapped_out: Option<u32>,
     ) -> Completion
-        requires sound { Sound self.old.geometry.measures (length lines.old) (length locks.old) case.now }
+        requires sound { let measures = self.old.geometry.measures in
+            Sound measures (length lines.old) (length locks.old) case.now }
         requires way { IfSome taken (λ t. t.place < length lines.old) }
-        ensures answer { result ≡ completed self.old.geometry.measures locks.old case.now supply swapped_out }
-        ensures lines { lines.new ≡ lines_after self.old.geometry.measures lines.old case.now supply taken }
-        ensures locks { locks.new ≡ locks_settled case.now.command case.now.address locks.old case.now.entry }
-        ensures processors { self.new.processors ≡ processors_after self.old.geometry.measures self.old.processors locks.old case.now taken }
+        ensures answer { let measures = self.old.geometry.measures in
+            result ≡ completed measures locks.old case.now supply swapped_out }
+        ensures lines { let measures = self.old.geometry.measures in
+            lines.new ≡ lines_after measures lines.old case.now supply taken }
+        ensures locks { let command = case.now.command in
+            locks.new ≡ locks_settled command case.now.address locks.old case.now.entry }
+        ensures processors { let measures = self.old.geometry.measures in
+            let before = self.old.processors in
+            self.new.processors ≡ processors_after measures before locks.old case.now taken }
         ensures geometry { self.new.geometry ≡ self.old.geometry }
         ensures bound { result.cycles ≤ 4000 }
     {

@@ -1,5 +1,4 @@
-// Who holds locks, and what happens to the lock entries. `asking` and `address` go together here, and a type for the two
-// would say no more than their names.
+// Who holds locks, and what happens to the lock entries.
 ghost use Rattle.std.specs.Prelude.{◌≡◌, ◌/◌, ◌<◌, length, IfSome, slice_index_or, slice_set};
 ghost use Rattle.cluster.specs.Locks.{locks_from, entry_of, held_entry, free_entry, other_lock, holder_of, waited_at, waited_for, somebody_waits};
 ghost use Rattle.cluster.specs.Making.{blank_entry};
@@ -11,13 +10,15 @@ use protocol::lock::{LockEntry, LockState};
 impl Cluster {
     // The processor's first entry with one of these addresses.
     fn entry_in(&self, locks: &[LockEntry], processor: u8, addresses: Keys) -> Option<usize>
-        ensures value { result ≡ entry_of self.now.geometry.measures locks.now processor (locks_from addresses.low addresses.high) }
+        ensures value { let test = locks_from addresses.low addresses.high in
+            result ≡ entry_of self.now.geometry.measures locks.now processor test }
         ensures within { IfSome result (λ i. i < length locks.now) }
     {
         Directory::new(locks).find(self.geometry.locks_of(processor), addresses)
     }
 
-    // The processor's first entry with the address.
+    /// The place in the lock table of the processor's first entry in use with the word address, if
+    /// it has one.
     pub fn held_entry(&self, locks: &[LockEntry], processor: u8, address: u32) -> Option<usize>
         ensures value { result ≡ held_entry self.now.geometry.measures locks.now processor address }
         ensures within { IfSome result (λ i. i < length locks.now) }
@@ -35,7 +36,8 @@ impl Cluster {
 
     // Whether the processor is not the asking one and has a lock in the block of the address.
     fn other_lock(&self, locks: &[LockEntry], asking: u8, address: u32, processor: u8) -> bool
-        ensures { result ≡ other_lock self.now.geometry.measures locks.now asking (address / 4) processor }
+        ensures { let measures = self.now.geometry.measures in
+            result ≡ other_lock measures locks.now asking (address / 4) processor }
     {
         processor != asking
             && self
@@ -69,7 +71,7 @@ impl Cluster {
     pub(crate) fn mark_waited(&self, locks: &mut [LockEntry], asking: u8, address: u32)
         ensures { locks.new ≡ waited_for self.now.geometry.measures locks.old asking (address / 4) }
     {
-        // Tried as `iter_mut().enumerate()`: the check knows the length of the entries then, and not what was written.
+        // By `iter_mut().enumerate()` the check would know their number, and not what was written.
         for i in 0..locks.len() {
             locks[i] = self.waited(asking, address, i, locks[i]);
         }

@@ -1,6 +1,8 @@
 // Making a cluster and its lent tables new.
-ghost use Rattle.std.specs.Prelude.{◌≡◌, length, replicate, if◌then◌else◌, Ok, Err};
-ghost use Rattle.cluster.specs.Making.{all_resting, tables_fit, new_geometry, new_processors, new_lines, new_locks};
+ghost use Rattle.std.specs.Prelude.{◌≡◌, is_ok, if◌then◌else◌};
+ghost use Rattle.memory.specs.Meaning.{Mem};
+ghost use Rattle.cluster.specs.Board.{board_of, making_rule};
+ghost use Rattle.cluster.specs.Making.{all_resting};
 ghost use Rattle.cluster.specs.Waiting.{awaited};
 
 use crate::cluster::{Cluster, Processor};
@@ -10,7 +12,7 @@ use protocol::lock::LockEntry;
 use protocol::refusal::Refusal;
 
 impl Cluster {
-    // A cluster whose processors have done nothing yet.
+    /// A cluster of a geometry whose processors have done nothing yet: every turn 0, nobody waits.
     pub fn at_rest(geometry: Geometry) -> Cluster
         ensures geometry { result.geometry ≡ geometry }
         ensures processors { result.processors ≡ all_resting }
@@ -21,13 +23,15 @@ impl Cluster {
         }
     }
 
+    /// The geometry that the cluster was made with.
     pub fn geometry(&self) -> Geometry
         ensures { result ≡ self.now.geometry }
     {
         self.geometry
     }
 
-    // The block that a processor waits for, if it waits.
+    /// The number of the block that a processor waits for, if it waits; a processor that the
+    /// geometry does not have never waits.
     pub fn waits_for(&self, processor: u8) -> Option<u32>
         ensures { result ≡ awaited self.now processor }
     {
@@ -37,18 +41,24 @@ impl Cluster {
         self.processors[processor as usize].waits_for
     }
 
-    // Makes the cluster and its tables new, in the caller's place. The tables are lent one by one, as to every call.
+    /// Makes the cluster and its tables new, in the caller's place, for a geometry: every line I,
+    /// every lock entry E, every turn 0, nobody waits. The memory is not lent: it may be any.
+    /// Refuses a table of wrong length for that geometry with 2, lines first; then nothing changes.
     pub fn make_new(
         &mut self,
         geometry: Geometry,
         lines: &mut [Line],
         locks: &mut [LockEntry],
     ) -> Result<(), Refusal>
-        ensures answer { result ≡ (if tables_fit geometry.measures (length lines.old) (length locks.old) then Ok tt else Err Refusal.TableLength) }
-        ensures geometry { self.new.geometry ≡ new_geometry geometry lines.old locks.old self.old.geometry }
-        ensures processors { self.new.processors ≡ new_processors geometry lines.old locks.old self.old.processors }
-        ensures lines { lines.new ≡ new_lines geometry lines.old locks.old }
-        ensures locks { locks.new ≡ new_locks geometry lines.old locks.old }
+        ensures answer { (mem : Mem) →
+            let before = board_of self.old lines.old locks.old mem in
+            result ≡ (making_rule geometry.measures before).answer }
+        ensures board { (mem : Mem) →
+            let before = board_of self.old lines.old locks.old mem in
+            let after = board_of self.new lines.new locks.new mem in
+            after ≡ (making_rule geometry.measures before).board }
+        ensures geometry { let made = is_ok result in
+            self.new.geometry ≡ (if made then geometry else self.old.geometry) }
     {
         let new = Cluster::at_rest(geometry);
         new.check_tables(lines, locks)?;

@@ -10,7 +10,8 @@ use protocol::table::snoop;
 impl Cluster {
     // In a cache the first line found for the block changes as the bus command says.
     fn snoop_cache(&self, lines: &mut [Line], processor: u8, block: u32, bus: BusCommand)
-        ensures { lines.new ≡ cache_snooped self.now.geometry.measures bus block processor lines.old }
+        ensures { let measures = self.now.geometry.measures in
+            lines.new ≡ cache_snooped measures bus block processor lines.old }
     {
         if let Some(i) = self.line_of(lines, processor, block) {
             let line = lines[i];
@@ -27,15 +28,15 @@ impl Cluster {
         block: u32,
         bus: BusCommand,
     )
-        ensures { lines.new ≡ other_snooped self.now.geometry.measures bus asking block processor lines.old }
+        ensures { let measures = self.now.geometry.measures in
+            lines.new ≡ other_snooped measures bus asking block processor lines.old }
     {
         if processor != asking {
             self.snoop_cache(lines, processor, block, bus);
         }
     }
 
-    // All caches but the asking one's see the bus command. The loop is over numbers of processors, and each turn changes
-    // lines by place: there is no list to go over.
+    // All caches but the asking one's see the bus command.
     pub(crate) fn snoop_others(&self, lines: &mut [Line], asking: u8, block: u32, bus: BusCommand)
         ensures { lines.new ≡ others_snooped self.now.geometry.measures bus asking block lines.old }
     {

@@ -12,7 +12,7 @@ use protocol::answer::Supplier;
 use protocol::line::Line;
 use protocol::refusal::Refusal;
 
-// The block's words before the command, and who supplied them.
+/// The four words that a block had before the command, and who supplied them, if it was asked for.
 #[derive(Clone, Copy)]
 pub struct Supply {
     pub words: [u32; 4],
@@ -27,7 +27,8 @@ impl<'a> View<'a> {
         block: u32,
         copy: Option<u8>,
     ) -> Result<Supply, Refusal>
-        ensures { result ≡ supplied_by self.now.cluster.now.geometry.measures self.now.lines.now (M.Memory.model memory.now) block copy }
+        ensures { let measures = self.now.cluster.now.geometry.measures in
+            result ≡ supplied_by measures self.now.lines.now (M.model memory.now) block copy }
     {
         match copy {
             Some(q) => {
@@ -47,7 +48,8 @@ impl<'a> View<'a> {
 
     pub(crate) fn fetch<M: Memory>(&self, memory: &M, case: &Case) -> Result<Supply, Refusal>
         requires { IfSome case.now.place (λ i. i < length self.now.lines.now) }
-        ensures { result ≡ supplied self.now.cluster.now.geometry.measures self.now.lines.now (M.Memory.model memory.now) case.now }
+        ensures { let measures = self.now.cluster.now.geometry.measures in
+            result ≡ supplied measures self.now.lines.now (M.model memory.now) case.now }
     {
         if asks_for_block(case.effect.bus) {
             return self.supply_from(memory, case.block, case.copy);
@@ -71,10 +73,10 @@ pub(crate) fn swap_out<M: Memory>(
     memory: &mut M,
     victim: Option<Line>,
 ) -> Result<Option<u32>, Refusal>
-    ensures answer { result ≡ swapped_out (M.Memory.model memory.old) victim }
-    ensures after { M.Memory.model memory.new ≡ memory_after (M.Memory.model memory.old) victim }
-    ensures kept { M.Memory.standing memory.new ≡ M.Memory.standing memory.old }
-    ensures denied { OnErr result (M.Memory.model memory.new ≡ M.Memory.model memory.old) }
+    ensures answer { result ≡ swapped_out (M.model memory.old) victim }
+    ensures after { M.model memory.new ≡ memory_after (M.model memory.old) victim }
+    ensures kept { M.standing memory.new ≡ M.standing memory.old }
+    ensures denied { OnErr result (M.model memory.new ≡ M.model memory.old) }
 {
     let Some(line) = victim else {
         return Ok(None);

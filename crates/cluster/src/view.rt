@@ -1,5 +1,4 @@
-// What a command reads before it changes anything: the cluster and its tables, of which the lines are as many as the
-// geometry asks for.
+// What a command reads before it changes anything: the cluster and its tables.
 ghost use Rattle.std.specs.Prelude.{◌≡◌, length};
 ghost use Rattle.protocol.specs.Places.{line_count};
 

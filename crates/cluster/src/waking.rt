@@ -32,12 +32,18 @@ impl Cluster {
         requires known { case.now.processor < self.old.geometry.measures.processors }
         requires block { case.now.block ≡ case.now.address / 4 }
         requires ready { Ready self.old.processors case.now.processor }
-        ensures answer { result ≡ record { holder = holder; found = case.now.found; cycles = self.old.geometry.measures.costs.lock_signal } }
-        ensures locks { locks.new ≡ waited_for self.old.geometry.measures locks.old case.now.processor case.now.block }
+        ensures answer { let cycles = self.old.geometry.measures.costs.lock_signal in
+            result ≡ record { holder = holder; found = case.now.found; cycles = cycles } }
+        ensures locks { let asking = case.now.processor in
+            locks.new ≡ waited_for self.old.geometry.measures locks.old asking case.now.block }
         ensures geometry { self.new.geometry ≡ self.old.geometry }
-        ensures processors { self.new.processors ≡ slice_set self.old.processors case.now.processor (waiting_for (slice_index_or self.old.processors case.now.processor resting) case.now.block) }
+        ensures processors { let p = case.now.processor in
+            let asking = slice_index_or self.old.processors p resting in
+            let waiting = waiting_for asking case.now.block in
+            self.new.processors ≡ slice_set self.old.processors p waiting }
         ensures fewer { not_waiting self.new.processors < not_waiting self.old.processors }
-        ensures fewer_idle { idle self.old.geometry.measures.processors self.new.processors < idle self.old.geometry.measures.processors self.old.processors }
+        ensures fewer_idle { let count = self.old.geometry.measures.processors in
+            idle count self.new.processors < idle count self.old.processors }
     {
         self.mark_waited(locks, case.processor, case.address);
         self.processors[case.processor as usize].waits_for = Some(case.block);
@@ -59,8 +65,10 @@ impl Cluster {
     pub(crate) fn settle_locks(&mut self, locks: &mut [LockEntry], case: &Case) -> bool
         requires { IfSome case.now.entry (λ i. i < length locks.old) }
         ensures ul { result ≡ ul_sent case.now.command locks.old case.now.entry }
-        ensures locks { locks.new ≡ locks_settled case.now.command case.now.address locks.old case.now.entry }
-        ensures processors { self.new.processors ≡ woken_by result case.now.block self.old.processors }
+        ensures locks { let command = case.now.command in
+            locks.new ≡ locks_settled command case.now.address locks.old case.now.entry }
+        ensures processors { let before = self.old.processors in
+            self.new.processors ≡ woken_by result case.now.block before }
         ensures geometry { self.new.geometry ≡ self.old.geometry }
     {
         let Some(i) = case.entry else {

@@ -7,8 +7,8 @@ use crate::case::Case;
 use crate::view::View;
 use protocol::directory::Directory;
 
-// The way that a processor takes in its window, and whether its turn chose it. A struct and no enum: every reader wants
-// the place, and one alone the flag.
+/// The way that a processor takes in its window: the place of its line in the line table, and
+/// whether the turn chose it.
 #[derive(Clone, Copy)]
 pub struct Taken {
     pub place: usize,
@@ -19,7 +19,8 @@ impl<'a> View<'a> {
     // The lowest way of the window that is I, else the one numbered by the turn.
     fn take_way(&self, processor: u8, block: u32, turn: usize) -> Taken
         requires { processor < self.now.cluster.now.geometry.measures.processors }
-        ensures value { result ≡ taken_way self.now.cluster.now.geometry.measures self.now.lines.now processor block turn }
+        ensures value { let measures = self.now.cluster.now.geometry.measures in
+            result ≡ taken_way measures self.now.lines.now processor block turn }
         ensures within { result.place < length self.now.lines.now }
     {
         let window = self.cluster.geometry.window(processor, block);
@@ -38,7 +39,9 @@ impl<'a> View<'a> {
     // The way that the command takes, if it takes one.
     pub(crate) fn taken(&self, case: &Case) -> Option<Taken>
         requires { case.now.processor < self.now.cluster.now.geometry.measures.processors }
-        ensures value { result ≡ way_taken self.now.cluster.now.geometry.measures self.now.cluster.now.processors self.now.lines.now case.now }
+        ensures value { let measures = self.now.cluster.now.geometry.measures in
+            let processors = self.now.cluster.now.processors in
+            result ≡ way_taken measures processors self.now.lines.now case.now }
         ensures within { IfSome result (λ t. t.place < length self.now.lines.now) }
     {
         if !case.takes_way() {

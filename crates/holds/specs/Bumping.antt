@@ -2,20 +2,19 @@
 use Rattle.std.specs.Prelude.{◌≡◌, ℕ, ◌+◌, ◌^◌, ◌%◌, false, List, [], ◌∷◌, IfSome, Some, Ok, Err, Result}
 use Rattle.protocol.specs.declared.answer.Answer.{Answer}
 use Rattle.protocol.specs.declared.answer.Answer.TheVariants.{Done, Wait}
-use Rattle.protocol.specs.declared.command.Command.TheVariants.{LR, UW}
+use Rattle.protocol.specs.declared.command.Command.TheVariants.{UW}
 use Rattle.protocol.specs.declared.command.Request.{Request}
-use Rattle.protocol.specs.declared.line.Line.{Line}
-use Rattle.protocol.specs.declared.lock.LockEntry.{LockEntry}
 use Rattle.protocol.specs.declared.measures.Measures.{Measures}
 use Rattle.protocol.specs.declared.refusal.Refusal.{Refusal}
 use Rattle.protocol.specs.declared.geometry.Geometry.{Geometry}
 use Rattle.memory.specs.Meaning.{Mem, Lawful}
-use Rattle.cluster.specs.declared.cluster.Processor.{Processor}
-use Rattle.cluster.specs.Rule.{Outcome, command_rule}
-use Rattle.law.specs.Calls.{Call, command, Board, command_on}
+use Rattle.cluster.specs.Board.{Board, Outcome, new_board}
+use Rattle.cluster.specs.Rule.{command_rule}
+use Rattle.law.specs.Calls.{Call, command}
 use Rattle.law.specs.Law.{OnDone}
 use Rattle.law.specs.Ledger.{Ledger, opened}
-use Rattle.law.specs.Accounts.{left_along, ledger_along, new_board}
+use Rattle.law.specs.Accounts.{left_along, ledger_along}
+use Rattle.holds.specs.Holding.{lr_at}
 use Rattle.holds.specs.Issued.{by}
 
 abbrev pub one_more : ℕ → ℕ
@@ -26,13 +25,13 @@ module _ (m : Measures) (processor address : ℕ) where
   word_back word = by processor (UW (one_more word)) address
 
   -- a done LR is followed by UW; any other answer is the bump's
-  abbrev pub bumped_from : Outcome → Result Answer Refusal → Outcome
-  bumped_from o (Ok (Done done)) = command_rule m o.processors o.lines o.locks o.memory (word_back done.word)
+  abbrev pub bumped_from : Outcome Answer → Result Answer Refusal → Outcome Answer
+  bumped_from o (Ok (Done done)) = command_rule m o.board (word_back done.word)
   bumped_from o (Ok (Wait hit)) = o
   bumped_from o (Err refusal) = o
 
-  abbrev pub bump_rule : List Processor → List Line → List LockEntry → Mem → Outcome
-  bump_rule ps lines locks mem = let o = command_rule m ps lines locks mem (by processor LR address) in bumped_from o o.answer
+  abbrev pub bump_rule : Board → Outcome Answer
+  bump_rule b = let o = command_rule m b (lr_at processor address) in bumped_from o o.answer
 
   -- the commands issued
   abbrev pub bumping_after : Result Answer Refusal → List Call
@@ -41,7 +40,9 @@ module _ (m : Measures) (processor address : ℕ) where
   bumping_after (Err refusal) = []
 
   abbrev pub bumping : Board → List Call
-  bumping b = command (by processor LR address) ∷ bumping_after (command_on m b (by processor LR address)).answer
+  bumping b =
+      let o = command_rule m b (lr_at processor address) in
+      command (lr_at processor address) ∷ bumping_after o.answer
 
 -- the address has the word one higher, and the lock is free
 pub record OneHigher (processor address read : ℕ) (l : Ledger) : Type 0 where
@@ -51,8 +52,9 @@ pub record OneHigher (processor address read : ℕ) (l : Ledger) : Type 0 where
 -- what a done bump makes of any ledger; the word is the one that LR answered
 abbrev pub Bumped : Measures → ℕ → ℕ → Board → Result Answer Refusal → Type 0
 Bumped m processor address b answer =
-    OnDone answer (λ done. OnDone (command_on m b (by processor LR address)).answer
-    (λ read. (l : Ledger) → OneHigher processor address read.word (ledger_along m b l (bumping m processor address b))))
+    OnDone answer (λ done. OnDone (command_rule m b (lr_at processor address)).answer
+    (λ read. (l : Ledger)
+    → OneHigher processor address read.word (ledger_along m b l (bumping m processor address b))))
 
 -- in the words of the ledger before and after: its word is one higher, and the lock is free
 pub record RaisedByOne (processor address : ℕ) (before after : Ledger) : Type 0 where
@@ -62,6 +64,8 @@ pub record RaisedByOne (processor address : ℕ) (before after : Ledger) : Type 
 -- so it is after a done bump, where calls from a new cluster led to it
 abbrev pub Raised : Geometry → ℕ → ℕ → Board → Result Answer Refusal → Type 0
 Raised g processor address b answer =
-    (mem : Mem) → Lawful mem → (calls : List Call) → b ≡ left_along g.measures (new_board g.measures mem) calls
+    (mem : Mem) → Lawful mem → (calls : List Call)
+    → b ≡ left_along g.measures (new_board g.measures mem) calls
     → let before = ledger_along g.measures (new_board g.measures mem) (opened mem) calls in
-    OnDone answer (λ done. RaisedByOne processor address before (ledger_along g.measures b before (bumping g.measures processor address b)))
+    let after = ledger_along g.measures b before (bumping g.measures processor address b) in
+    OnDone answer (λ done. RaisedByOne processor address before after)

@@ -1,6 +1,6 @@
 // Raising a word by one under a lock.
 ghost use Rattle.std.specs.Prelude.{◌≡◌};
-ghost use Rattle.holds.specs.Issued.{board_with};
+ghost use Rattle.cluster.specs.Board.{board_of};
 ghost use Rattle.law.specs.Accounts.{left_along};
 ghost use Rattle.law.specs.Along.{LawAlong};
 ghost use Rattle.holds.specs.Bumping.{bump_rule, bumping, Bumped, Raised};
@@ -13,9 +13,10 @@ use protocol::line::Line;
 use protocol::lock::LockEntry;
 use protocol::refusal::Refusal;
 
-// LR as a hold, then UW with the word plus 1 modulo 2^32. Answers UW's answer, or LR's if that is not done. Where UW gives
-// the hold back, it is laid down: the lock stays, and can be released by a command with the same two numbers. The call is
-// these two commands, so what holds of commands holds of it.
+/// Raises the word at an address by 1 modulo 2^32 under a lock: LR as a hold, then UW with the new
+/// word. Answers UW's answer, or LR's if that is not done, refusals as theirs. Where UW gives the
+/// hold back, it is laid down: the lock stays, and can be released by a command with the same two
+/// numbers. The call is these two commands, so what holds of commands holds of it.
 pub fn bump<M: Memory>(
     cluster: &mut Cluster,
     lines: &mut [Line],
@@ -24,17 +25,24 @@ pub fn bump<M: Memory>(
     processor: u8,
     address: u32,
 ) -> Result<Answer, Refusal>
-    ensures answer { result ≡ (bump_rule cluster.old.geometry.measures processor address cluster.old.processors lines.old locks.old (M.Memory.model memory.old)).answer }
-    ensures processors { cluster.new.processors ≡ (bump_rule cluster.old.geometry.measures processor address cluster.old.processors lines.old locks.old (M.Memory.model memory.old)).processors }
-    ensures lines { lines.new ≡ (bump_rule cluster.old.geometry.measures processor address cluster.old.processors lines.old locks.old (M.Memory.model memory.old)).lines }
-    ensures locks { locks.new ≡ (bump_rule cluster.old.geometry.measures processor address cluster.old.processors lines.old locks.old (M.Memory.model memory.old)).locks }
-    ensures memory { M.Memory.model memory.new ≡ (bump_rule cluster.old.geometry.measures processor address cluster.old.processors lines.old locks.old (M.Memory.model memory.old)).memory }
+    ensures answer { let before = board_of cluster.old lines.old locks.old (M.model memory.old) in
+        result ≡ (bump_rule cluster.old.geometry.measures processor address before).answer }
+    ensures board { let before = board_of cluster.old lines.old locks.old (M.model memory.old) in
+        board_of cluster.new lines.new locks.new (M.model memory.new)
+        ≡ (bump_rule cluster.old.geometry.measures processor address before).board }
     ensures geometry { cluster.new.geometry ≡ cluster.old.geometry }
-    ensures kept { M.Memory.standing memory.new ≡ M.Memory.standing memory.old }
-    ensures commands { board_with cluster.new lines.new locks.new (M.Memory.model memory.new) ≡ left_along cluster.old.geometry.measures (board_with cluster.old lines.old locks.old (M.Memory.model memory.old)) (bumping cluster.old.geometry.measures processor address (board_with cluster.old lines.old locks.old (M.Memory.model memory.old))) }
-    ensures law { LawAlong cluster.old.geometry (board_with cluster.old lines.old locks.old (M.Memory.model memory.old)) (bumping cluster.old.geometry.measures processor address (board_with cluster.old lines.old locks.old (M.Memory.model memory.old))) }
-    ensures raised { Raised cluster.old.geometry processor address (board_with cluster.old lines.old locks.old (M.Memory.model memory.old)) result }
-    ensures bumped { Bumped cluster.old.geometry.measures processor address (board_with cluster.old lines.old locks.old (M.Memory.model memory.old)) result }
+    ensures kept { M.standing memory.new ≡ M.standing memory.old }
+    ensures commands { let before = board_of cluster.old lines.old locks.old (M.model memory.old) in
+        let calls = bumping cluster.old.geometry.measures processor address before in
+        board_of cluster.new lines.new locks.new (M.model memory.new)
+        ≡ left_along cluster.old.geometry.measures before calls }
+    ensures law { let before = board_of cluster.old lines.old locks.old (M.model memory.old) in
+        let calls = bumping cluster.old.geometry.measures processor address before in
+        LawAlong cluster.old.geometry before calls }
+    ensures raised { let before = board_of cluster.old lines.old locks.old (M.model memory.old) in
+        Raised cluster.old.geometry processor address before result }
+    ensures bumped { let before = board_of cluster.old lines.old locks.old (M.model memory.old) in
+        Bumped cluster.old.geometry.measures processor address before result }
 {
     let (hold, taken) = match Hold::take(cluster, lines, locks, memory, processor, address) {
         Taken::Held(hold, taken) => (hold, taken),

@@ -1,10 +1,9 @@
 // A hold: a lock that program code has taken and cannot forget.
 ghost use Rattle.std.specs.Prelude.{◌≡◌};
-ghost use Rattle.cluster.specs.Rule.{command_rule};
-ghost use Rattle.holds.specs.Issued.{by, board_with};
+ghost use Rattle.cluster.specs.Board.{board_of};
 ghost use Rattle.law.specs.Accounts.{left_along};
 ghost use Rattle.law.specs.Along.{LawAlong};
-ghost use Rattle.holds.specs.Holding.{hold_at, taken, ends, released, answer_of, sent, taking, releasing};
+ghost use Rattle.holds.specs.Holding.{hold_at, taken, ends, released, answer_of, take_rule, send_rule, taking, releasing};
 
 use cluster::cluster::Cluster;
 use memory::memory::Memory;
@@ -14,26 +13,28 @@ use protocol::line::Line;
 use protocol::lock::LockEntry;
 use protocol::refusal::Refusal;
 
-// Neither copied nor dropped, and made by taking a lock alone: so a program that has one must release it or lay it down.
+/// A lock that a processor holds at a word address: a token that is neither copied nor dropped, and
+/// made by taking a lock alone. So a program that has one must release it or lay it down.
 pub struct Hold {
     processor: u8,
     address: u32,
 }
 
-// What taking a lock gives: the hold with the answer if that is done, else the answer alone.
+/// What taking a lock gives: the hold with the answer if that is done, else the answer alone.
 pub enum Taken {
     Held(Hold, Completion),
     NotHeld(Result<Answer, Refusal>),
 }
 
-// Done, or refused with 8, a release ends the hold; with every other answer it gives the hold back.
+/// What a release gives. Done, or refused with 8, it ends the hold; with every other answer it
+/// gives the hold back.
 pub enum Released {
     Ended(Result<Answer, Refusal>),
     Back(Hold, Result<Answer, Refusal>),
 }
 
 impl Released {
-    // The answer alone. A hold that came back is laid down: its lock stays.
+    /// The answer alone. A hold that came back is laid down: its lock stays.
     pub fn into_answer(self) -> Result<Answer, Refusal>
         ensures { result ≡ answer_of self }
     {
@@ -55,7 +56,8 @@ fn ends(answer: &Result<Answer, Refusal>) -> bool
 }
 
 impl Hold {
-    // Takes a lock: issues LR. The call is that command, so what holds of commands holds of it.
+    /// Takes a lock at a word address for a processor: issues LR. Refuses as that command does, 2
+    /// before all others; the call is that command, so what holds of commands holds of it.
     pub fn take<M: Memory>(
         cluster: &mut Cluster,
         lines: &mut [Line],
@@ -64,15 +66,22 @@ impl Hold {
         processor: u8,
         address: u32,
     ) -> Taken
-        ensures answer { result ≡ taken (hold_at processor address) (command_rule cluster.old.geometry.measures cluster.old.processors lines.old locks.old (M.Memory.model memory.old) (by processor Command.LR address)).answer }
-        ensures processors { cluster.new.processors ≡ (command_rule cluster.old.geometry.measures cluster.old.processors lines.old locks.old (M.Memory.model memory.old) (by processor Command.LR address)).processors }
-        ensures lines { lines.new ≡ (command_rule cluster.old.geometry.measures cluster.old.processors lines.old locks.old (M.Memory.model memory.old) (by processor Command.LR address)).lines }
-        ensures locks { locks.new ≡ (command_rule cluster.old.geometry.measures cluster.old.processors lines.old locks.old (M.Memory.model memory.old) (by processor Command.LR address)).locks }
-        ensures memory { M.Memory.model memory.new ≡ (command_rule cluster.old.geometry.measures cluster.old.processors lines.old locks.old (M.Memory.model memory.old) (by processor Command.LR address)).memory }
+        ensures answer { let before = board_of cluster.old
+            lines.old locks.old (M.model memory.old) in
+            let outcome = take_rule cluster.old.geometry.measures processor address before in
+            result ≡ taken (hold_at processor address) outcome.answer }
+        ensures board { let before = board_of cluster.old
+            lines.old locks.old (M.model memory.old) in
+            board_of cluster.new lines.new locks.new (M.model memory.new)
+            ≡ (take_rule cluster.old.geometry.measures processor address before).board }
         ensures geometry { cluster.new.geometry ≡ cluster.old.geometry }
-        ensures kept { M.Memory.standing memory.new ≡ M.Memory.standing memory.old }
-        ensures commands { board_with cluster.new lines.new locks.new (M.Memory.model memory.new) ≡ left_along cluster.old.geometry.measures (board_with cluster.old lines.old locks.old (M.Memory.model memory.old)) (taking processor address) }
-        ensures law { LawAlong cluster.old.geometry (board_with cluster.old lines.old locks.old (M.Memory.model memory.old)) (taking processor address) }
+        ensures kept { M.standing memory.new ≡ M.standing memory.old }
+        ensures commands { let before = board_of cluster.old
+            lines.old locks.old (M.model memory.old) in
+            board_of cluster.new lines.new locks.new (M.model memory.new)
+            ≡ left_along cluster.old.geometry.measures before (taking processor address) }
+        ensures law { let before = board_of cluster.old lines.old locks.old (M.model memory.old) in
+            LawAlong cluster.old.geometry before (taking processor address) }
     {
         let request = Request {
             processor,
@@ -94,13 +103,16 @@ impl Hold {
         memory: &mut M,
         command: Command,
     ) -> Released
-        ensures answer { result ≡ released self (command_rule cluster.old.geometry.measures cluster.old.processors lines.old locks.old (M.Memory.model memory.old) (sent self command)).answer }
-        ensures processors { cluster.new.processors ≡ (command_rule cluster.old.geometry.measures cluster.old.processors lines.old locks.old (M.Memory.model memory.old) (sent self command)).processors }
-        ensures lines { lines.new ≡ (command_rule cluster.old.geometry.measures cluster.old.processors lines.old locks.old (M.Memory.model memory.old) (sent self command)).lines }
-        ensures locks { locks.new ≡ (command_rule cluster.old.geometry.measures cluster.old.processors lines.old locks.old (M.Memory.model memory.old) (sent self command)).locks }
-        ensures memory { M.Memory.model memory.new ≡ (command_rule cluster.old.geometry.measures cluster.old.processors lines.old locks.old (M.Memory.model memory.old) (sent self command)).memory }
+        ensures answer { let before = board_of cluster.old
+            lines.old locks.old (M.model memory.old) in
+            let outcome = send_rule cluster.old.geometry.measures self command before in
+            result ≡ released self outcome.answer }
+        ensures board { let before = board_of cluster.old
+            lines.old locks.old (M.model memory.old) in
+            board_of cluster.new lines.new locks.new (M.model memory.new)
+            ≡ (send_rule cluster.old.geometry.measures self command before).board }
         ensures geometry { cluster.new.geometry ≡ cluster.old.geometry }
-        ensures kept { M.Memory.standing memory.new ≡ M.Memory.standing memory.old }
+        ensures kept { M.standing memory.new ≡ M.standing memory.old }
     {
         let request = Request {
             processor: self.processor,
@@ -116,7 +128,8 @@ impl Hold {
         }
     }
 
-    // Gives the lock back: issues U. The call is that command, so what holds of commands holds of it.
+    /// Gives the lock back: issues U. Refuses as that command does; the call is that command, so
+    /// what holds of commands holds of it.
     pub fn release<M: Memory>(
         self,
         cluster: &mut Cluster,
@@ -124,20 +137,28 @@ impl Hold {
         locks: &mut [LockEntry],
         memory: &mut M,
     ) -> Released
-        ensures answer { result ≡ released self (command_rule cluster.old.geometry.measures cluster.old.processors lines.old locks.old (M.Memory.model memory.old) (sent self Command.U)).answer }
-        ensures processors { cluster.new.processors ≡ (command_rule cluster.old.geometry.measures cluster.old.processors lines.old locks.old (M.Memory.model memory.old) (sent self Command.U)).processors }
-        ensures lines { lines.new ≡ (command_rule cluster.old.geometry.measures cluster.old.processors lines.old locks.old (M.Memory.model memory.old) (sent self Command.U)).lines }
-        ensures locks { locks.new ≡ (command_rule cluster.old.geometry.measures cluster.old.processors lines.old locks.old (M.Memory.model memory.old) (sent self Command.U)).locks }
-        ensures memory { M.Memory.model memory.new ≡ (command_rule cluster.old.geometry.measures cluster.old.processors lines.old locks.old (M.Memory.model memory.old) (sent self Command.U)).memory }
+        ensures answer { let before = board_of cluster.old
+            lines.old locks.old (M.model memory.old) in
+            let outcome = send_rule cluster.old.geometry.measures self Command.U before in
+            result ≡ released self outcome.answer }
+        ensures board { let before = board_of cluster.old
+            lines.old locks.old (M.model memory.old) in
+            board_of cluster.new lines.new locks.new (M.model memory.new)
+            ≡ (send_rule cluster.old.geometry.measures self Command.U before).board }
         ensures geometry { cluster.new.geometry ≡ cluster.old.geometry }
-        ensures kept { M.Memory.standing memory.new ≡ M.Memory.standing memory.old }
-        ensures commands { board_with cluster.new lines.new locks.new (M.Memory.model memory.new) ≡ left_along cluster.old.geometry.measures (board_with cluster.old lines.old locks.old (M.Memory.model memory.old)) (releasing self Command.U) }
-        ensures law { LawAlong cluster.old.geometry (board_with cluster.old lines.old locks.old (M.Memory.model memory.old)) (releasing self Command.U) }
+        ensures kept { M.standing memory.new ≡ M.standing memory.old }
+        ensures commands { let before = board_of cluster.old
+            lines.old locks.old (M.model memory.old) in
+            board_of cluster.new lines.new locks.new (M.model memory.new)
+            ≡ left_along cluster.old.geometry.measures before (releasing self Command.U) }
+        ensures law { let before = board_of cluster.old lines.old locks.old (M.model memory.old) in
+            LawAlong cluster.old.geometry before (releasing self Command.U) }
     {
         self.send(cluster, lines, locks, memory, Command::U)
     }
 
-    // Writes a word and gives the lock back: issues UW. The call is that command, so what holds of commands holds of it.
+    /// Writes a word and gives the lock back: issues UW. Refuses as that command does; the call is
+    /// that command, so what holds of commands holds of it.
     pub fn release_with<M: Memory>(
         self,
         cluster: &mut Cluster,
@@ -146,20 +167,28 @@ impl Hold {
         memory: &mut M,
         word: u32,
     ) -> Released
-        ensures answer { result ≡ released self (command_rule cluster.old.geometry.measures cluster.old.processors lines.old locks.old (M.Memory.model memory.old) (sent self (Command.UW word))).answer }
-        ensures processors { cluster.new.processors ≡ (command_rule cluster.old.geometry.measures cluster.old.processors lines.old locks.old (M.Memory.model memory.old) (sent self (Command.UW word))).processors }
-        ensures lines { lines.new ≡ (command_rule cluster.old.geometry.measures cluster.old.processors lines.old locks.old (M.Memory.model memory.old) (sent self (Command.UW word))).lines }
-        ensures locks { locks.new ≡ (command_rule cluster.old.geometry.measures cluster.old.processors lines.old locks.old (M.Memory.model memory.old) (sent self (Command.UW word))).locks }
-        ensures memory { M.Memory.model memory.new ≡ (command_rule cluster.old.geometry.measures cluster.old.processors lines.old locks.old (M.Memory.model memory.old) (sent self (Command.UW word))).memory }
+        ensures answer { let before = board_of cluster.old
+            lines.old locks.old (M.model memory.old) in
+            let outcome = send_rule cluster.old.geometry.measures self (Command.UW word) before in
+            result ≡ released self outcome.answer }
+        ensures board { let before = board_of cluster.old
+            lines.old locks.old (M.model memory.old) in
+            board_of cluster.new lines.new locks.new (M.model memory.new)
+            ≡ (send_rule cluster.old.geometry.measures self (Command.UW word) before).board }
         ensures geometry { cluster.new.geometry ≡ cluster.old.geometry }
-        ensures kept { M.Memory.standing memory.new ≡ M.Memory.standing memory.old }
-        ensures commands { board_with cluster.new lines.new locks.new (M.Memory.model memory.new) ≡ left_along cluster.old.geometry.measures (board_with cluster.old lines.old locks.old (M.Memory.model memory.old)) (releasing self (Command.UW word)) }
-        ensures law { LawAlong cluster.old.geometry (board_with cluster.old lines.old locks.old (M.Memory.model memory.old)) (releasing self (Command.UW word)) }
+        ensures kept { M.standing memory.new ≡ M.standing memory.old }
+        ensures commands { let before = board_of cluster.old
+            lines.old locks.old (M.model memory.old) in
+            board_of cluster.new lines.new locks.new (M.model memory.new)
+            ≡ left_along cluster.old.geometry.measures before (releasing self (Command.UW word)) }
+        ensures law { let before = board_of cluster.old lines.old locks.old (M.model memory.old) in
+            LawAlong cluster.old.geometry before (releasing self (Command.UW word)) }
     {
         self.send(cluster, lines, locks, memory, Command::UW(word))
     }
 
-    // Gives up the hold and leaves the lock: it can be released by a command with these two numbers.
+    /// Gives up the hold and leaves the lock: it can be released by a command with these two
+    /// numbers, processor and word address.
     pub fn lay_down(self) -> (u8, u32)
         ensures processor { result.0 ≡ self.processor }
         ensures address { result.1 ≡ self.address }
@@ -168,12 +197,14 @@ impl Hold {
         (processor, address)
     }
 
+    /// The processor that holds the lock.
     pub fn processor(&self) -> u8
         ensures { result ≡ self.now.processor }
     {
         self.processor
     }
 
+    /// The word address of the lock.
     pub fn address(&self) -> u32
         ensures { result ≡ self.now.address }
     {

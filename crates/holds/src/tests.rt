@@ -252,7 +252,8 @@ fn laid_down_and_released_by_number(rt: HostRuntime) -> Result<(), Fail> {
     Ok(())
 }
 
-// Adds the word at another address to the word at this one, which nobody else reads or writes in between.
+// Adds the word at another address to the word at this one, which nobody else reads or writes in
+// between.
 fn add<M: Memory>(
     cluster: &mut Cluster,
     lines: &mut [Line],

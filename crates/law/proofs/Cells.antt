@@ -31,14 +31,19 @@ at_state P h s = by_parts (and_parts _ _ h) s
     by_parts t EM = t.1
     by_parts t EC = (and_parts (P I && P S && P SM) (P EC) t.0).1
     by_parts t SM = (and_parts (P I && P S) (P SM) (and_parts (P I && P S && P SM) (P EC) t.0).0).1
-    by_parts t S = (and_parts (P I) (P S) (and_parts (P I && P S) (P SM) (and_parts (P I && P S && P SM) (P EC) t.0).0).0).1
-    by_parts t I = (and_parts (P I) (P S) (and_parts (P I && P S) (P SM) (and_parts (P I && P S && P SM) (P EC) t.0).0).0).0
+    by_parts t S =
+        (and_parts (P I) (P S)
+        (and_parts (P I && P S) (P SM) (and_parts (P I && P S && P SM) (P EC) t.0).0).0).1
+    by_parts t I =
+        (and_parts (P I) (P S)
+        (and_parts (P I && P S) (P SM) (and_parts (P I && P S && P SM) (P EC) t.0).0).0).0
 
 abbrev tested : (Effect → Bool) → Option Effect → Bool
 tested P None = true
 tested P (Some e) = P e
 
-at_cell : (P : Effect → Bool) (cell : Option Effect) (e : Effect) → tested P cell ≡ true → cell ≡ Some e → P e ≡ true
+at_cell : (P : Effect → Bool) (cell : Option Effect) (e : Effect) → tested P cell ≡ true → cell ≡ Some e
+    → P e ≡ true
 at_cell P cell e h is = ap (tested P) (sym is) ∙ h
 
 -- reading a test
@@ -159,23 +164,30 @@ abbrev locks_alone : Action → State → Effect → Bool
 locks_alone a f e = not (takes_lock_as a) || sole f e
 
 abbrev hit_leaves : Action → State → Effect → Bool
-hit_leaves a f e = not (asks_for_block e.bus) && locks_alone a f e && (hit_keeps a f e || hit_owns a f e || hit_empties a f e)
+hit_leaves a f e =
+    not (asks_for_block e.bus) && locks_alone a f e
+    && (hit_keeps a f e || hit_owns a f e || hit_empties a f e)
 
 abbrev hit_test : Action → State → Bool
 hit_test a f = not (valid f) || tested (hit_leaves a f) (cell_of a f)
 
 -- the own cache does not have it
 pub data Miss (a : Action) (e : Effect) : Type 0 where
-  reads_shared : e.bus ≡ Some F → e.from_cache ≡ S → e.from_memory ≡ EC → writes a ≡ false → drops a ≡ false → Miss a e
-  takes : e.bus ≡ Some FI → e.from_cache ≡ EM → (e.from_memory ≡ EM) ⊎ ((e.from_memory ≡ EC) × (writes a ≡ false)) → drops a ≡ false → Miss a e
+  reads_shared : e.bus ≡ Some F → e.from_cache ≡ S → e.from_memory ≡ EC → writes a ≡ false
+      → drops a ≡ false → Miss a e
+  takes : e.bus ≡ Some FI → e.from_cache ≡ EM
+      → (e.from_memory ≡ EM) ⊎ ((e.from_memory ≡ EC) × (writes a ≡ false)) → drops a ≡ false → Miss a e
   purges : e.bus ≡ Some FI → e.from_cache ≡ I → e.from_memory ≡ I → drops a ≡ true → Miss a e
   makes : e.bus ≡ None → is_direct_write a ≡ true → e.from_memory ≡ EM → drops a ≡ false → Miss a e
 
 abbrev miss_reads : Action → Effect → Bool
-miss_reads a e = fetching e.bus && same S e.from_cache && same EC e.from_memory && not (writes a) && not (drops a)
+miss_reads a e =
+    fetching e.bus && same S e.from_cache && same EC e.from_memory && not (writes a) && not (drops a)
 
 abbrev miss_takes : Action → Effect → Bool
-miss_takes a e = taking e.bus && same EM e.from_cache && (same EM e.from_memory || (same EC e.from_memory && not (writes a))) && not (drops a)
+miss_takes a e =
+    taking e.bus && same EM e.from_cache
+    && (same EM e.from_memory || (same EC e.from_memory && not (writes a))) && not (drops a)
 
 abbrev miss_purges : Action → Effect → Bool
 miss_purges a e = taking e.bus && same I e.from_cache && same I e.from_memory && drops a
@@ -184,7 +196,9 @@ abbrev miss_makes : Action → Effect → Bool
 miss_makes a e = quiet e.bus && is_direct_write a && same EM e.from_memory && not (drops a)
 
 abbrev miss_leaves : Action → Effect → Bool
-miss_leaves a e = (not (takes_lock_as a) || taking e.bus) && (miss_reads a e || miss_takes a e || miss_purges a e || miss_makes a e)
+miss_leaves a e =
+    (not (takes_lock_as a) || taking e.bus)
+    && (miss_reads a e || miss_takes a e || miss_purges a e || miss_makes a e)
 
 abbrev miss_test : Action → Bool
 miss_test a = is_unlock a || tested (miss_leaves a) (cell_of a I)
@@ -243,7 +257,8 @@ module _ (a : Action) (e : Effect) where
   hit f v is =
       let kinds = hit_keeps a f e || hit_owns a f e || hit_empties a f e in
       let tests = at_state (hit_test a) (at_action (λ x. every_state (hit_test x)) hits_pass a) f in
-      let all = at_cell (hit_leaves a f) (cell_of a f) e (or_not (valid f) (tested (hit_leaves a f) (cell_of a f)) tests v) is in
+      let all = at_cell (hit_leaves a f) (cell_of a f) e
+      (or_not (valid f) (tested (hit_leaves a f) (cell_of a f)) tests v) is in
       let part = and_parts (not (asks_for_block e.bus) && locks_alone a f e) kinds all in
       let first = and_parts (not (asks_for_block e.bus)) (locks_alone a f e) part.0 in
       record {
@@ -252,10 +267,12 @@ module _ (a : Action) (e : Effect) where
         kind = elim (or_cases (hit_keeps a f e || hit_owns a f e) (hit_empties a f e) part.1) [
           | inl two ↦ elim (or_cases (hit_keeps a f e) (hit_owns a f e) two) [
             | inl t ↦
-                let p = and_parts (quiet e.bus && same f e.from_memory && not (writes a)) (not (drops a)) t in
+                let p = and_parts (quiet e.bus && same f e.from_memory && not (writes a)) (not (drops a))
+                t in
                 let r = and_parts (quiet e.bus && same f e.from_memory) (not (writes a)) p.0 in
                 let s = and_parts (quiet e.bus) (same f e.from_memory) r.0 in
-                keeps (is_quiet e.bus s.0) (is_same f e.from_memory s.1) (not-true (writes a) r.1) (not-true (drops a) p.1)
+                keeps (is_quiet e.bus s.0) (is_same f e.from_memory s.1) (not-true (writes a) r.1)
+                (not-true (drops a) p.1)
             | inr t ↦
                 let p = and_parts (sole f e && same EM e.from_memory) (not (drops a)) t in
                 let r = and_parts (sole f e) (same EM e.from_memory) p.0 in
@@ -278,40 +295,59 @@ module _ (a : Action) (e : Effect) where
 
   pub miss : is_unlock a ≡ false → cell_of a I ≡ Some e → MissCell
   miss u is =
-      let all = at_cell (miss_leaves a) (cell_of a I) e (or_else (is_unlock a) (tested (miss_leaves a) (cell_of a I)) (at_action miss_test misses_pass a) u) is in
-      let part = and_parts (not (takes_lock_as a) || taking e.bus) (miss_reads a e || miss_takes a e || miss_purges a e || miss_makes a e) all in
+      let all = at_cell (miss_leaves a) (cell_of a I) e
+      (or_else (is_unlock a) (tested (miss_leaves a) (cell_of a I)) (at_action miss_test misses_pass a) u)
+      is in
+      let part = and_parts (not (takes_lock_as a) || taking e.bus)
+      (miss_reads a e || miss_takes a e || miss_purges a e || miss_makes a e) all in
       record {
         locked_taking = λ h. is_taking e.bus (or_not (takes_lock_as a) (taking e.bus) part.0 h);
-        kind = elim (or_cases (miss_reads a e || miss_takes a e || miss_purges a e) (miss_makes a e) part.1) [
-          | inl three ↦ elim (or_cases (miss_reads a e || miss_takes a e) (miss_purges a e) three) [
-            | inl two ↦ elim (or_cases (miss_reads a e) (miss_takes a e) two) [
-              | inl t ↦
-                  let p = and_parts (fetching e.bus && same S e.from_cache && same EC e.from_memory && not (writes a)) (not (drops a)) t in
-                  let q = and_parts (fetching e.bus && same S e.from_cache && same EC e.from_memory) (not (writes a)) p.0 in
-                  let r = and_parts (fetching e.bus && same S e.from_cache) (same EC e.from_memory) q.0 in
-                  let s = and_parts (fetching e.bus) (same S e.from_cache) r.0 in
-                  reads_shared (is_fetching e.bus s.0) (is_same S e.from_cache s.1) (is_same EC e.from_memory r.1) (not-true (writes a) q.1) (not-true (drops a) p.1)
+        kind = elim (or_cases (miss_reads a e || miss_takes a e || miss_purges a e) (miss_makes a e)
+            part.1) [
+              | inl three ↦ elim (or_cases (miss_reads a e || miss_takes a e) (miss_purges a e) three) [
+                | inl two ↦ elim (or_cases (miss_reads a e) (miss_takes a e) two) [
+                  | inl t ↦
+                      let p = and_parts
+                      (fetching e.bus && same S e.from_cache && same EC e.from_memory && not (writes a))
+                      (not (drops a)) t in
+                      let q = and_parts (fetching e.bus && same S e.from_cache && same EC e.from_memory)
+                      (not (writes a)) p.0 in
+                      let r = and_parts (fetching e.bus && same S e.from_cache) (same EC e.from_memory) q.0 in
+                      let s = and_parts (fetching e.bus) (same S e.from_cache) r.0 in
+                      reads_shared (is_fetching e.bus s.0) (is_same S e.from_cache s.1)
+                      (is_same EC e.from_memory r.1) (not-true (writes a) q.1) (not-true (drops a) p.1)
+                  | inr t ↦
+                      let p = and_parts
+                      (taking e.bus && same EM e.from_cache
+                      && (same EM e.from_memory || (same EC e.from_memory && not (writes a)))) (not (drops a))
+                      t in
+                      let q = and_parts (taking e.bus && same EM e.from_cache)
+                      (same EM e.from_memory || (same EC e.from_memory && not (writes a))) p.0 in
+                      let r = and_parts (taking e.bus) (same EM e.from_cache) q.0 in
+                      takes (is_taking e.bus r.0) (is_same EM e.from_cache r.1)
+                      (elim (or_cases (same EM e.from_memory) (same EC e.from_memory && not (writes a))
+                      q.1) [
+                        | inl em ↦ inl (is_same EM e.from_memory em)
+                        | inr ec ↦ let w =
+                            and_parts (same EC e.from_memory) (not (writes a)) ec in
+                            inr (is_same EC e.from_memory w.0, not-true (writes a) w.1)
+                      ]) (not-true (drops a) p.1)
+                ]
+                | inr t ↦
+                    let p = and_parts (taking e.bus && same I e.from_cache && same I e.from_memory) (drops a)
+                    t in
+                    let q = and_parts (taking e.bus && same I e.from_cache) (same I e.from_memory) p.0 in
+                    let r = and_parts (taking e.bus) (same I e.from_cache) q.0 in
+                    purges (is_taking e.bus r.0) (is_same I e.from_cache r.1) (is_same I e.from_memory q.1)
+                    p.1
+              ]
               | inr t ↦
-                  let p = and_parts (taking e.bus && same EM e.from_cache && (same EM e.from_memory || (same EC e.from_memory && not (writes a)))) (not (drops a)) t in
-                  let q = and_parts (taking e.bus && same EM e.from_cache) (same EM e.from_memory || (same EC e.from_memory && not (writes a))) p.0 in
-                  let r = and_parts (taking e.bus) (same EM e.from_cache) q.0 in
-                  takes (is_taking e.bus r.0) (is_same EM e.from_cache r.1) (elim (or_cases (same EM e.from_memory) (same EC e.from_memory && not (writes a)) q.1) [
-                    | inl em ↦ inl (is_same EM e.from_memory em)
-                    | inr ec ↦ let w = and_parts (same EC e.from_memory) (not (writes a)) ec in inr (is_same EC e.from_memory w.0, not-true (writes a) w.1)
-                  ]) (not-true (drops a) p.1)
-            ]
-            | inr t ↦
-                let p = and_parts (taking e.bus && same I e.from_cache && same I e.from_memory) (drops a) t in
-                let q = and_parts (taking e.bus && same I e.from_cache) (same I e.from_memory) p.0 in
-                let r = and_parts (taking e.bus) (same I e.from_cache) q.0 in
-                purges (is_taking e.bus r.0) (is_same I e.from_cache r.1) (is_same I e.from_memory q.1) p.1
-          ]
-          | inr t ↦
-              let p = and_parts (quiet e.bus && is_direct_write a && same EM e.from_memory) (not (drops a)) t in
-              let q = and_parts (quiet e.bus && is_direct_write a) (same EM e.from_memory) p.0 in
-              let r = and_parts (quiet e.bus) (is_direct_write a) q.0 in
-              makes (is_quiet e.bus r.0) r.1 (is_same EM e.from_memory q.1) (not-true (drops a) p.1)
-        ];
+                  let p = and_parts (quiet e.bus && is_direct_write a && same EM e.from_memory)
+                  (not (drops a)) t in
+                  let q = and_parts (quiet e.bus && is_direct_write a) (same EM e.from_memory) p.0 in
+                  let r = and_parts (quiet e.bus) (is_direct_write a) q.0 in
+                  makes (is_quiet e.bus r.0) r.1 (is_same EM e.from_memory q.1) (not-true (drops a) p.1)
+            ];
       }
 
 -- what a command acts as, in the words of its action
@@ -324,7 +360,9 @@ module _ (address : ℕ) (found : State) (elsewhere : Bool) where
   dw_acts word P dw w = cond_both (eqb (address % 4) 0) DW W P (λ e. dw) (λ e. w)
 
   rb_acts : (P : Action → Type 0) → P RP → P RI → P R → P (acting command.RB)
-  rb_acts P rp ri r = cond_both (eqb (address % 4) 3) RP _ P (λ e. rp) (λ e. cond_both (not (valid found) && elsewhere) RI R P (λ e. ri) (λ e. r))
+  rb_acts P rp ri r =
+      cond_both (eqb (address % 4) 3) RP _ P (λ e. rp)
+      (λ e. cond_both (not (valid found) && elsewhere) RI R P (λ e. ri) (λ e. r))
 
   pub acts_drops : (c : Command) → drops (acting c) ≡ purging c address
   acts_drops command.R = refl
@@ -345,7 +383,8 @@ module _ (address : ℕ) (found : State) (elsewhere : Bool) where
   pub acts_writes : (c : Command) (ws : List ℕ) → writes (acting c) ≡ false → words_left c address ws ≡ ws
   acts_writes command.R ws h = refl
   acts_writes (command.W word) ws h = absurd (cc)
-  acts_writes (command.DW word) ws h = absurd (dw_acts word (λ a. writes a ≡ false → ⊥) true≢false true≢false h)
+  acts_writes (command.DW word) ws h =
+      absurd (dw_acts word (λ a. writes a ≡ false → ⊥) true≢false true≢false h)
   acts_writes command.RI ws h = refl
   acts_writes command.RP ws h = refl
   acts_writes command.RB ws h = refl
@@ -379,7 +418,8 @@ module _ (address : ℕ) (found : State) (elsewhere : Bool) where
   acts_locks (command.UW word) h = absurd (cc)
   acts_locks command.U h = absurd (cc)
 
-  pub acts_reads : (c : Command) → reads c ≡ true → (is_unlock (acting c) ≡ false) × (fresh c address ≡ false)
+  pub acts_reads : (c : Command) → reads c ≡ true
+      → (is_unlock (acting c) ≡ false) × (fresh c address ≡ false)
   acts_reads command.R h = (refl, refl)
   acts_reads (command.W word) h = absurd (cc)
   acts_reads (command.DW word) h = absurd (cc)
@@ -393,10 +433,12 @@ module _ (address : ℕ) (found : State) (elsewhere : Bool) where
   pub acts_unlock : (c : Command) → is_unlock (acting c) ≡ true → c ≡ command.U
   acts_unlock command.R h = absurd (cc)
   acts_unlock (command.W word) h = absurd (cc)
-  acts_unlock (command.DW word) h = absurd (dw_acts word (λ a. is_unlock a ≡ true → ⊥) false≢true false≢true h)
+  acts_unlock (command.DW word) h =
+      absurd (dw_acts word (λ a. is_unlock a ≡ true → ⊥) false≢true false≢true h)
   acts_unlock command.RI h = absurd (cc)
   acts_unlock command.RP h = absurd (cc)
-  acts_unlock command.RB h = absurd (rb_acts (λ a. is_unlock a ≡ true → ⊥) false≢true false≢true false≢true h)
+  acts_unlock command.RB h =
+      absurd (rb_acts (λ a. is_unlock a ≡ true → ⊥) false≢true false≢true false≢true h)
   acts_unlock command.LR h = absurd (cc)
   acts_unlock (command.UW word) h = absurd (cc)
   acts_unlock command.U h = refl

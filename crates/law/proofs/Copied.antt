@@ -18,10 +18,12 @@ pub copy_block : (block : ℕ) (line : Line) → holds_block block line ≡ true
 copy_block block line h =
     let part = and_parts (valid line.state && leb block line.block) (leb line.block block) h in
     let to : leb line.block block ≡ true = part.1 in
-    let from : leb block line.block ≡ true = (and_parts (valid line.state) (leb block line.block) part.0).1 in
+    let from : leb block line.block ≡ true =
+    (and_parts (valid line.state) (leb block line.block) part.0).1 in
     grind (arith, nat_tests)
 
-pub copy_from : (block : ℕ) (line : Line) → valid line.state ≡ true → line.block ≡ block → holds_block block line ≡ true
+pub copy_from : (block : ℕ) (line : Line) → valid line.state ≡ true → line.block ≡ block
+    → holds_block block line ≡ true
 copy_from block line h e = rw h (grind (arith, nat_tests, e))
 
 -- a modified line is valid
@@ -36,8 +38,10 @@ modified_valid EM h = refl
 abbrev pub BlockKept : Line → Line → Type 0
 BlockKept line left = valid left.state ≡ true → (valid line.state ≡ true) × (left.block ≡ line.block)
 
-pub kept_copy : (line left : Line) → BlockKept line left → (b : ℕ) → holds_block b left ≡ true → holds_block b line ≡ true
-kept_copy line left kept b h = let was = kept (copy_valid b left h) in copy_from b line was.0 (sym was.1 ∙ copy_block b left h)
+pub kept_copy : (line left : Line) → BlockKept line left → (b : ℕ) → holds_block b left ≡ true
+    → holds_block b line ≡ true
+kept_copy line left kept b h =
+    let was = kept (copy_valid b left h) in copy_from b line was.0 (sym was.1 ∙ copy_block b left h)
 
 -- such lines stay in their windows
 module _ (m : Measures) (at left : ℕ → Line) (kept : (i : ℕ) → BlockKept (at i) (left i)) where
@@ -52,6 +56,8 @@ module _ (m : Measures) (at left : ℕ → Line) (kept : (i : ℕ) → BlockKept
       }
 
 -- where each block has four words, each valid line has
-pub words_four : (at : ℕ → Line) (mem truth : ℕ → List ℕ) → Coherent at mem truth → ((b : ℕ) → length (truth b) ≡ 4)
+pub words_four : (at : ℕ → Line) (mem truth : ℕ → List ℕ) → Coherent at mem truth
+    → ((b : ℕ) → length (truth b) ≡ 4)
     → (i : ℕ) → valid (at i).state ≡ true → length (at i).words ≡ 4
-words_four at mem truth c four i v = ap length (c.agree (at i).block i (copy_from (at i).block (at i) v refl)) ∙ four (at i).block
+words_four at mem truth c four i v =
+    ap length (c.agree (at i).block i (copy_from (at i).block (at i) v refl)) ∙ four (at i).block

@@ -1,6 +1,7 @@
 -- A done command, told by the cell that it met, and its own line.
 use Rattle.std.proofs.Common.{◌≡◌, ℕ, ◌/◌, ◌<◌, Bool, true, false, cond, not, ◌&&◌, ◌||◌, List, is_some, Some, None, Ok, Err, Option, Result, sym, ap, ◌∙◌, subst}
 use Rattle.std.proofs.lemmas.Bool.{leb-false}
+use Rattle.protocol.specs.declared.answer.Answer.{Answer}
 use Rattle.protocol.specs.declared.command.Action.{Action}
 use Rattle.protocol.specs.declared.command.Request.{Request}
 use Rattle.protocol.specs.declared.line.Line.{Line}
@@ -13,6 +14,7 @@ use Rattle.protocol.specs.Acting.{words_left}
 use Rattle.protocol.specs.Entries.{valid}
 use Rattle.protocol.specs.StateTable.{cell_of}
 use Rattle.memory.specs.Meaning.{Mem}
+use Rattle.cluster.specs.Board.{Board, Outcome}
 use Rattle.cluster.specs.declared.case.Case.{Case}
 use Rattle.cluster.specs.declared.cluster.Processor.{Processor}
 use Rattle.cluster.specs.declared.supply.Supply.{Supply}
@@ -21,7 +23,7 @@ use Rattle.cluster.specs.Copies.{line_of, line_at}
 use Rattle.cluster.specs.Doing.{asks_for_block, state_left, supplied_by, supplied, victim_of, swapped_out, memory_after}
 use Rattle.cluster.specs.Finishing.{way_taken}
 use Rattle.cluster.specs.Refusing.{is_direct_write}
-use Rattle.cluster.specs.Rule.{Outcome, finishing}
+use Rattle.cluster.specs.Rule.{finishing}
 use Rattle.cluster.specs.Settling.{takes_lock}
 use Rattle.law.specs.Ledger.{block_of}
 use Rattle.law.proofs.Cells.{acts_drops, acts_writes, acts_fresh, acts_locks, takes_lock_as, writes, drops, unwritten}
@@ -29,29 +31,30 @@ use Rattle.law.proofs.Leaving.{own_line, own_named}
 use Rattle.law.proofs.Words.{purging, fresh}
 use Rattle.law.proofs.Shapes.{Finished, found, copy as supplier, holder, action_of, met}
 
-module _ (m : Measures) (ps : List Processor) (lines : List Line) (locks : List LockEntry) (mem : Mem) (q : Request) where
+module _ (m : Measures) (board : Board) (q : Request) where
   abbrev pub case_with : Effect → Case
-  case_with e = met m ps lines locks mem q e
+  case_with e = met m board q e
 
   abbrev pub taken_with : Effect → Option Taken
-  taken_with e = way_taken m ps lines (case_with e)
+  taken_with e = way_taken m board.processors board.lines (case_with e)
 
   -- a done command, told by the cell that it met
-  pub record Done (o : Outcome) : Type 0 where
+  pub record Done (o : Outcome Answer) : Type 0 where
     pub effect : Effect
     pub known : q.processor < m.processors
-    pub cell : cell_of (action_of m ps lines locks mem q) (found m ps lines locks mem q) ≡ Some effect
-    pub alone : (is_direct_write (action_of m ps lines locks mem q) && not (valid (found m ps lines locks mem q))
-        && (is_some (supplier m ps lines locks mem q) || is_some (holder m ps lines locks mem q))) ≡ false
+    pub cell : cell_of (action_of m board q) (found m board q) ≡ Some effect
+    pub alone : (is_direct_write (action_of m board q) && not (valid (found m board q))
+        && (is_some (supplier m board q) || is_some (holder m board q))) ≡ false
     pub supply : Supply
-    pub given : supplied m lines mem (case_with effect) ≡ Ok supply
+    pub given : supplied m board.lines board.memory (case_with effect) ≡ Ok supply
     pub swapped : Option ℕ
-    pub granted : swapped_out mem (victim_of lines (taken_with effect)) ≡ Ok swapped
-    pub is : o ≡ finishing m ps lines locks mem (case_with effect) supply (taken_with effect) swapped (memory_after mem (victim_of lines (taken_with effect)))
+    pub granted : swapped_out board.memory (victim_of board.lines (taken_with effect)) ≡ Ok swapped
+    pub is : o ≡ finishing m board (case_with effect) supply (taken_with effect) swapped
+        (memory_after board.memory (victim_of board.lines (taken_with effect)))
 
-pub done : {m : Measures} {ps : List Processor} {lines : List Line} {locks : List LockEntry} {mem : Mem} {q : Request} {o : Outcome}
-    → Finished m ps lines locks mem q o → Done m ps lines locks mem q o
-done {m = m} {ps = ps} {lines = lines} {locks = locks} {mem = mem} {q = q} f =
+pub done : {m : Measures} {board : Board} {q : Request} {o : Outcome Answer}
+    → Finished m board q o → Done m board q o
+done {m = m} {board = board} {q = q} f =
     let facts = f.facts in
     record {
       effect = facts.effect;
@@ -59,12 +62,17 @@ done {m = m} {ps = ps} {lines = lines} {locks = locks} {mem = mem} {q = q} f =
       cell = facts.cell;
       alone = facts.alone;
       supply = f.supply;
-      given = subst (λ c. supplied m lines mem c ≡ Ok f.supply) facts.is f.given;
+      given = subst (λ c. supplied m board.lines board.memory c ≡ Ok f.supply) facts.is f.given;
       swapped = f.swapped;
-      granted = subst (λ c. swapped_out mem (victim_of lines (way_taken m ps lines c)) ≡ Ok f.swapped) facts.is f.granted;
+      granted = subst
+          (λ c. swapped_out board.memory
+          (victim_of board.lines (way_taken m board.processors board.lines c)) ≡ Ok f.swapped) facts.is
+          f.granted;
       is =
           f.is
-          ∙ ap (λ c. finishing m ps lines locks mem c f.supply (way_taken m ps lines c) f.swapped (memory_after mem (victim_of lines (way_taken m ps lines c)))) facts.is;
+          ∙ ap (λ c. finishing m board c f.supply (way_taken m board.processors board.lines c) f.swapped
+          (memory_after board.memory
+          (victim_of board.lines (way_taken m board.processors board.lines c)))) facts.is;
     }
 
 pub ok_same : {X : Type 0} (x y : X) → ◌≡◌ {A = Result X Refusal} (Ok x) (Ok y) → x ≡ y
@@ -75,13 +83,13 @@ ok_same {X} x y e = ap (λ r. or_x r) e
     or_x (Err r) = x
 
 -- what it makes of its own line
-module _ {m : Measures} {ps : List Processor} {lines : List Line} {locks : List LockEntry} {mem : Mem} {q : Request} {o : Outcome}
-    (d : Done m ps lines locks mem q o) where
+module _ {m : Measures} {board : Board} {q : Request} {o : Outcome Answer}
+    (d : Done m board q o) where
   abbrev acting : Action
-  acting = action_of m ps lines locks mem q
+  acting = action_of m board q
 
   abbrev elsewhere : Bool
-  elsewhere = is_some (supplier m ps lines locks mem q)
+  elsewhere = is_some (supplier m board q)
 
   abbrev pub made_state : State
   made_state = state_left d.effect d.supply.from
@@ -93,10 +101,14 @@ module _ {m : Measures} {ps : List Processor} {lines : List Line} {locks : List 
   made_named = own_named q.command q.address d.supply.words made_state
 
   abbrev own_supply : Supply
-  own_supply = record { words = (line_at lines (line_of m lines q.processor (q.address / 4))).words; from = None }
+  own_supply = record {
+    words = (line_at board.lines (line_of m board.lines q.processor (q.address / 4))).words;
+    from =
+        None;
+  }
 
   abbrev asked : Result Supply Refusal
-  asked = supplied_by m lines mem (q.address / 4) (supplier m ps lines locks mem q)
+  asked = supplied_by m board.lines board.memory (q.address / 4) (supplier m board q)
 
   pub unasked_supply : asks_for_block d.effect.bus ≡ false → d.supply ≡ own_supply
   unasked_supply e = ok_same d.supply own_supply (sym d.given ∙ ap (λ b. cond b asked (Ok own_supply)) e)
@@ -105,16 +117,16 @@ module _ {m : Measures} {ps : List Processor} {lines : List Line} {locks : List 
   asked_supply e = sym (ap (λ b. cond b asked (Ok own_supply)) e) ∙ d.given
 
   pub same_words : writes acting ≡ false → words_left q.command q.address d.supply.words ≡ d.supply.words
-  same_words = acts_writes q.address (found m ps lines locks mem q) elsewhere q.command d.supply.words
+  same_words = acts_writes q.address (found m board q) elsewhere q.command d.supply.words
 
   pub purging_is : (b : Bool) → drops acting ≡ b → purging q.command q.address ≡ b
-  purging_is b h = sym (acts_drops q.address (found m ps lines locks mem q) elsewhere q.command) ∙ h
+  purging_is b h = sym (acts_drops q.address (found m board q) elsewhere q.command) ∙ h
 
   pub stale_by : writes acting ≡ false → fresh q.command q.address ≡ false
-  stale_by w = sym (acts_fresh q.address (found m ps lines locks mem q) elsewhere q.command) ∙ unwritten acting w
+  stale_by w = sym (acts_fresh q.address (found m board q) elsewhere q.command) ∙ unwritten acting w
 
   pub fresh_made : fresh q.command q.address ≡ is_direct_write acting
-  fresh_made = sym (acts_fresh q.address (found m ps lines locks mem q) elsewhere q.command)
+  fresh_made = sym (acts_fresh q.address (found m board q) elsewhere q.command)
 
   pub takes_locked : takes_lock q.command ≡ true → takes_lock_as acting ≡ true
-  takes_locked = acts_locks q.address (found m ps lines locks mem q) elsewhere q.command
+  takes_locked = acts_locks q.address (found m board q) elsewhere q.command

@@ -22,17 +22,24 @@ unused_seen a e h = by_use (in_use e) h
     by_use true h = absurd (cc)
     by_use false h = refl
 
-pub held_seen : (a address : ℕ) (e : LockEntry) → locks_from address address e ≡ true → locks_from a a e ≡ eqb a address
+pub held_seen : (a address : ℕ) (e : LockEntry) → locks_from address address e ≡ true
+    → locks_from a a e ≡ eqb a address
 held_seen a address e h = by_use (in_use e) h
   where
-    by_use : (b : Bool) → (b && leb address e.address && leb e.address address) ≡ true → (b && leb a e.address && leb e.address a) ≡ eqb a address
+    by_use : (b : Bool) → (b && leb address e.address && leb e.address address) ≡ true
+        → (b && leb a e.address && leb e.address a) ≡ eqb a address
     by_use true h = grind (arith, nat_tests)
     by_use false h = absurd (cc)
 
-pub waited_seen : (m : Measures) (asking block a i : ℕ) (e : LockEntry) → locks_from a a (waited_at m asking block i e) ≡ locks_from a a e
-waited_seen m asking block a i e = by_own (own_entry m asking i) (in_use e) (leb (4 * block) e.address) (leb e.address (4 * block + 3)) refl
+pub waited_seen : (m : Measures) (asking block a i : ℕ) (e : LockEntry)
+    → locks_from a a (waited_at m asking block i e) ≡ locks_from a a e
+waited_seen m asking block a i e =
+    by_own (own_entry m asking i) (in_use e) (leb (4 * block) e.address) (leb e.address (4 * block + 3))
+    refl
   where
-    by_own : (o b j k : Bool) → in_use e ≡ b → locks_from a a (cond (not o && (b && j && k)) (record { state = LW; address = e.address }) e) ≡ locks_from a a e
+    by_own : (o b j k : Bool) → in_use e ≡ b
+        → locks_from a a (cond (not o && (b && j && k)) (record { state = LW; address = e.address }) e)
+        ≡ locks_from a a e
     by_own true b j k h = refl
     by_own false false j k h = refl
     by_own false true false k h = refl
@@ -43,7 +50,8 @@ waited_seen m asking block a i e = by_own (own_entry m asking i) (in_use e) (leb
 pub locks_at : (a : ℕ) (e : LockEntry) → locks_from a a e ≡ true → (in_use e ≡ true) × (e.address ≡ a)
 locks_at a e h = by_use (in_use e) refl h
   where
-    by_use : (b : Bool) → in_use e ≡ b → (b && leb a e.address && leb e.address a) ≡ true → (in_use e ≡ true) × (e.address ≡ a)
+    by_use : (b : Bool) → in_use e ≡ b → (b && leb a e.address && leb e.address a) ≡ true
+        → (in_use e ≡ true) × (e.address ≡ a)
     by_use true used h = (used, grind (arith, nat_tests, h))
     by_use false used h = absurd (cc)
 

@@ -21,14 +21,18 @@ heard (Some bus) line = in_state line (snooped bus line.state)
 pub valid_in_state : (line : Line) (s : State) → valid (in_state line s).state ≡ true → valid s ≡ true
 valid_in_state line s h = by_valid (valid s) refl h
   where
-    by_valid : (b : Bool) → valid s ≡ b → valid (cond b (record { state = s; block = line.block; words = line.words }) blank_line).state ≡ true → valid s ≡ true
+    by_valid : (b : Bool) → valid s ≡ b
+        → valid (cond b (record { state = s; block = line.block; words = line.words }) blank_line).state
+        ≡ true → valid s ≡ true
     by_valid true e h = e
     by_valid false e h = absurd (cc)
 
-pub in_valid_state : (line : Line) (s : State) → valid s ≡ true → in_state line s ≡ record { state = s; block = line.block; words = line.words }
+pub in_valid_state : (line : Line) (s : State) → valid s ≡ true
+    → in_state line s ≡ record { state = s; block = line.block; words = line.words }
 in_valid_state line s h = rw h refl
 
-pub block_in_state : (line : Line) (s : State) → valid (in_state line s).state ≡ true → (in_state line s).block ≡ line.block
+pub block_in_state : (line : Line) (s : State) → valid (in_state line s).state ≡ true
+    → (in_state line s).block ≡ line.block
 block_in_state line s h = ap (λ x. x.block) (in_valid_state line s (valid_in_state line s h))
 
 snooped_valid : (bus : BusCommand) (s : State) → valid (snooped bus s) ≡ true → valid s ≡ true
@@ -42,10 +46,14 @@ snooped_valid bus EM h = refl
 
 pub heard_kept : (bus : Option BusCommand) (line : Line) → BlockKept line (heard bus line)
 heard_kept None line h = (h, refl)
-heard_kept (Some bus) line h =
-    (snooped_valid bus line.state (valid_in_state line (snooped bus line.state) h), block_in_state line (snooped bus line.state) h)
+heard_kept (Some bus) line h = (
+  snooped_valid bus line.state (valid_in_state line (snooped bus line.state) h),
+  block_in_state line
+      (snooped bus line.state) h,
+)
 
-pub heard_copy : (bus : Option BusCommand) (line : Line) (b : ℕ) → holds_block b (heard bus line) ≡ true → holds_block b line ≡ true
+pub heard_copy : (bus : Option BusCommand) (line : Line) (b : ℕ) → holds_block b (heard bus line) ≡ true
+    → holds_block b line ≡ true
 heard_copy bus line b h = kept_copy line (heard bus line) (heard_kept bus line) b h
 
 -- F keeps what is valid and modified, and leaves nothing exclusive
@@ -70,7 +78,9 @@ f_shares SM = refl
 f_shares EC = refl
 f_shares EM = refl
 
-pub heard_f : (line : Line) → valid line.state ≡ true → heard (Some F) line ≡ record { state = snooped F line.state; block = line.block; words = line.words }
+pub heard_f : (line : Line) → valid line.state ≡ true
+    → heard (Some F) line ≡ record
+    { state = snooped F line.state; block = line.block; words = line.words }
 heard_f line h = in_valid_state line (snooped F line.state) (f_valid line.state ∙ h)
 
 -- FI and I leave no copy
@@ -93,7 +103,9 @@ none_left bus_i SM h = refl
 none_left bus_i EC h = refl
 none_left bus_i EM h = refl
 
-pub cleared : (bus : Option BusCommand) (line : Line) (b : ℕ) → clears bus ≡ true → holds_block b (heard bus line) ≡ true → ⊥
+pub cleared : (bus : Option BusCommand) (line : Line) (b : ℕ) → clears bus ≡ true
+    → holds_block b (heard bus line) ≡ true → ⊥
 cleared None line b h c = cc
 cleared (Some bus) line b h c =
-    false≢true (sym (none_left bus line.state h) ∙ valid_in_state line (snooped bus line.state) (copy_valid b (heard (Some bus) line) c))
+    false≢true (sym (none_left bus line.state h)
+    ∙ valid_in_state line (snooped bus line.state) (copy_valid b (heard (Some bus) line) c))

@@ -26,13 +26,18 @@ pub record Truth (after : ℕ → Line) (mem : ℕ → List ℕ) (l : Ledger) : 
   pub tied : Tied words l
 
 abbrev pub own_line : Command → ℕ → List ℕ → State → Line
-own_line c address ws left = in_state (record { state = left; block = block_of address; words = words_left c address ws }) left
+own_line c address ws left =
+    in_state (record { state = left; block = block_of address; words = words_left c address ws }) left
 
-pub own_named : (c : Command) (address : ℕ) (ws : List ℕ) (left : State) → valid (own_line c address ws left).state ≡ true
+pub own_named : (c : Command) (address : ℕ) (ws : List ℕ) (left : State)
+    → valid (own_line c address ws left).state ≡ true
     → (own_line c address ws left).block ≡ block_of address
-own_named c address ws left v = block_in_state (record { state = left; block = block_of address; words = words_left c address ws }) left v
+own_named c address ws left v =
+    block_in_state (record { state = left; block = block_of address; words = words_left c address ws })
+    left v
 
-module _ {m : Measures} {at after : ℕ → Line} {k asking : ℕ} {bus : Option BusCommand} (c : Command) (address : ℕ) (ws : List ℕ) (left : State)
+module _ {m : Measures} {at after : ℕ → Line} {k asking : ℕ} {bus : Option BusCommand} (c : Command)
+    (address : ℕ) (ws : List ℕ) (left : State)
     (moved : Moved m at after (block_of address) k asking bus (own_line c address ws left)) where
   abbrev block : ℕ
   block = block_of address
@@ -46,20 +51,30 @@ module _ {m : Measures} {at after : ℕ → Line} {k asking : ℕ} {bus : Option
       left_ec : Only moved → left ≡ EC → words_left c address ws ≡ ws → purging c address ≡ false
           → fresh c address ≡ false → mem block ≡ truth block → Kind
       left_i : Only moved → left ≡ I → purging c address ≡ true → Kind
-      left_s : bus ≡ Some F → left ≡ S → words_left c address ws ≡ ws → purging c address ≡ false → fresh c address ≡ false
+      left_s : bus ≡ Some F → left ≡ S → words_left c address ws ≡ ws → purging c address ≡ false
+          → fresh c address ≡ false
           → ((i : ℕ) → copy at block i → i ≡ k → ⊥) → Kind
-      kept : bus ≡ None → own ≡ at k → words_left c address ws ≡ ws → purging c address ≡ false → fresh c address ≡ false → Kind
+      kept : bus ≡ None → own ≡ at k → words_left c address ws ≡ ws → purging c address ≡ false
+          → fresh c address ≡ false → Kind
 
     own_words : (s : State) → left ≡ s → valid s ≡ true → own.words ≡ words_left c address ws
-    own_words s e v = ap (λ x. x.words) (in_valid_state (record { state = left; block = block; words = words_left c address ws }) left (ap valid e ∙ v))
+    own_words s e v =
+        ap (λ x. x.words)
+        (in_valid_state (record { state = left; block = block; words = words_left c address ws }) left
+        (ap valid e ∙ v))
 
     own_state : (s : State) → left ≡ s → valid s ≡ true → own.state ≡ s
-    own_state s e v = ap (λ x. x.state) (in_valid_state (record { state = left; block = block; words = words_left c address ws }) left (ap valid e ∙ v)) ∙ e
+    own_state s e v =
+        ap (λ x. x.state)
+        (in_valid_state (record { state = left; block = block; words = words_left c address ws }) left
+        (ap valid e ∙ v)) ∙ e
 
     own_blank : left ≡ I → own ≡ blank_line
-    own_blank e = ap (λ s. in_state (record { state = s; block = block; words = words_left c address ws }) s) e
+    own_blank e =
+        ap (λ s. in_state (record { state = s; block = block; words = words_left c address ws }) s) e
 
-    with_same : (xs : List ℕ) (l : Ledger) (tied : Tied truth l) → xs ≡ truth block → with_words truth l tied address xs ≡ truth
+    with_same : (xs : List ℕ) (l : Ledger) (tied : Tied truth l) → xs ≡ truth block
+        → with_words truth l tied address xs ≡ truth
     with_same xs l tied e i b = same b i
       where
         same : (b : ℕ) → with_words truth l tied address xs b ≡ truth b
@@ -68,13 +83,16 @@ module _ {m : Measures} {at after : ℕ → Line} {k asking : ℕ} {bus : Option
           | inr else ↦ ap (λ t. cond t xs (truth b)) else.0
         ]
 
-    pub by_kind : (l : Ledger) → Tied truth l → (ul : Bool) → (fresh c address ≡ false → ws ≡ truth block) → length (mem block) ≡ 4
+    pub by_kind : (l : Ledger) → Tied truth l → (ul : Bool) → (fresh c address ≡ false → ws ≡ truth block)
+        → length (mem block) ≡ 4
         → Kind → Truth after mem (done_by asking address ul c l)
     by_kind l tied ul has four (left_em only e still) = record {
       words = with_words truth l tied address (words_left c address ws);
       coherent =
           owns moved coherent only (words_left c address ws) (λ v. own_words EM e refl)
-          (λ clean. absurd (false≢true (sym (clean (ap valid (own_state EM e refl))) ∙ ap modified (own_state EM e refl))));
+          (λ clean. absurd
+          (false≢true (sym (clean (ap valid (own_state EM e refl)))
+          ∙ ap modified (own_state EM e refl))));
       tied = tied_words truth l tied address asking ul c still ws has;
     }
     by_kind l tied ul has four (left_ec only e same still stale back) = record {
@@ -96,13 +114,15 @@ module _ {m : Measures} {at after : ℕ → Line} {k asking : ℕ} {bus : Option
       coherent =
           shares moved coherent f (own_state S e refl) (own_words S e refl ∙ same ∙ has stale) miss;
       tied =
-          subst (λ w. Tied w (done_by asking address ul c l)) (ap (with_words truth l tied address) (same ∙ has stale))
+          subst (λ w. Tied w (done_by asking address ul c l))
+          (ap (with_words truth l tied address) (same ∙ has stale))
           (tied_words truth l tied address asking ul c still ws has);
     }
     by_kind l tied ul has four (kept none is same still stale) = record {
       words = truth;
       coherent = subst (λ x. Coherent x mem truth) (sym (unmoved moved coherent none is)) coherent;
       tied =
-          subst (λ w. Tied w (done_by asking address ul c l)) (with_same (words_left c address ws) l tied (same ∙ has stale))
+          subst (λ w. Tied w (done_by asking address ul c l))
+          (with_same (words_left c address ws) l tied (same ∙ has stale))
           (tied_words truth l tied address asking ul c still ws has);
     }

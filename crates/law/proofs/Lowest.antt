@@ -17,10 +17,12 @@ some_passes t n j low e = by_found (lowest_from t 0 n) (lowest_tells t n 0)
     by_found (Some i) h = refl
 
 -- two searches with tests that agree
-pub lowest_same : (t u : ℕ → Bool) (count from : ℕ) → ((j : ℕ) → from ≤ j → j < from + count → t j ≡ u j) → lowest_from t from count ≡ lowest_from u from count
+pub lowest_same : (t u : ℕ → Bool) (count from : ℕ) → ((j : ℕ) → from ≤ j → j < from + count → t j ≡ u j)
+    → lowest_from t from count ≡ lowest_from u from count
 lowest_same t u zero from same = refl
 lowest_same t u (suc count) from same =
-    let behind = lowest_same t u count (from + 1) (λ j low high. same j (omega (arith, low)) (omega (arith, high))) in
+    let behind = lowest_same t u count (from + 1)
+    (λ j low high. same j (omega (arith, low)) (omega (arith, high))) in
     (λ i. cond (same from (omega arith) (omega arith) i) (Some from) (behind i))
 
 -- with a test that leaves out the one that asks

@@ -1,6 +1,7 @@
 -- A done command whose own cache does not have the block.
 use Rattle.std.proofs.Common.{◌≡◌, ℕ, ◌/◌, ◌<◌, Bool, true, false, cond, not, ◌&&◌, ◌⊎◌, List, length, get_or, is_some, Some, None, Ok, Err, Option, Result, sym, refl, ap, ◌∙◌, subst, inl, inr}
 use Rattle.std.proofs.lemmas.Bool.{false≢true, or_parts}
+use Rattle.protocol.specs.declared.answer.Answer.{Answer}
 use Rattle.protocol.specs.declared.answer.Supplier.TheVariants.{Memory, Cache}
 use Rattle.protocol.specs.declared.command.Action.{Action}
 use Rattle.protocol.specs.declared.command.BusCommand.{BusCommand}
@@ -18,6 +19,7 @@ use Rattle.protocol.specs.Entries.{valid}
 use Rattle.protocol.specs.Places.{line_count}
 use Rattle.protocol.specs.StateTable.{cell_of}
 use Rattle.memory.specs.Meaning.{Mem, grants}
+use Rattle.cluster.specs.Board.{Board, Outcome}
 use Rattle.cluster.specs.declared.cluster.Processor.{Processor}
 use Rattle.cluster.specs.declared.supply.Supply.{Supply}
 use Rattle.cluster.specs.declared.ways.Taken.{Taken}
@@ -25,7 +27,6 @@ use Rattle.cluster.specs.Copies.{holds_block, line_of, line_at, supplier_of}
 use Rattle.cluster.specs.Doing.{asks_for_block, is_unlock, supplied_by, state_left}
 use Rattle.cluster.specs.Making.{resting}
 use Rattle.cluster.specs.Refusing.{is_direct_write}
-use Rattle.cluster.specs.Rule.{Outcome}
 use Rattle.cluster.specs.Settling.{takes_lock}
 use Rattle.cluster.specs.Ways.{taken_way}
 use Rattle.law.proofs.Hearing.{clears}
@@ -42,9 +43,11 @@ use Rattle.law.proofs.Taking.{way_home}
 use Rattle.law.proofs.Words.{fresh}
 use Rattle.law.proofs.Doing.{taken_with, Done, ok_same, made_state, made_line, made_named, unasked_supply, asked_supply, fresh_made, purging_is, same_words, stale_by, takes_locked}
 
-module _ {m : Measures} (some_columns : 0 < m.columns) (some_ways : 0 < m.ways) {ps : List Processor} {lines : List Line} {locks : List LockEntry} {mem : Mem}
-    {q : Request} (fit : length lines ≡ line_count m) (homed : Homed m (at_in lines)) {truth : ℕ → List ℕ} (coherent : Coherent (at_in lines) mem.words truth)
-    {o : Outcome} (d : Done m ps lines locks mem q o) (e : line_of m lines q.processor (q.address / 4) ≡ None) where
+module _ {m : Measures} (some_columns : 0 < m.columns) (some_ways : 0 < m.ways) {board : Board}
+    {q : Request} (fit : length board.lines ≡ line_count m) (homed : Homed m (at_in board.lines))
+    {truth : ℕ → List ℕ} (coherent : Coherent (at_in board.lines) board.memory.words truth)
+    {o : Outcome Answer} (d : Done m board q o)
+    (e : line_of m board.lines q.processor (q.address / 4) ≡ None) where
   abbrev block : ℕ
   block = q.address / 4
 
@@ -52,7 +55,7 @@ module _ {m : Measures} (some_columns : 0 < m.columns) (some_ways : 0 < m.ways) 
   bus = d.effect.bus
 
   abbrev acting : Action
-  acting = action_of m ps lines locks mem q
+  acting = action_of m board q
 
   abbrev pub left : State
   left = made_state d
@@ -60,53 +63,68 @@ module _ {m : Measures} (some_columns : 0 < m.columns) (some_ways : 0 < m.ways) 
   abbrev pub own : Line
   own = made_line d
 
-  found_is : found m ps lines locks mem q ≡ I
-  found_is = ap (λ p. (line_at lines p).state) e
+  found_is : found m board q ≡ I
+  found_is = ap (λ p. (line_at board.lines p).state) e
 
   cell_is : cell_of acting I ≡ Some d.effect
   cell_is = ap (cell_of acting) (sym found_is) ∙ d.cell
 
   -- no cache has the block
-  none_there : supplier_of m lines q.processor block ≡ None → (i : ℕ) → copy (at_in lines) block i → ⊥
+  none_there : supplier_of m board.lines q.processor block ≡ None → (i : ℕ)
+      → copy (at_in board.lines) block i → ⊥
   none_there s i c =
-      found_none m some_columns lines fit homed q.processor block d.known e i c (supplier_none m some_columns lines fit homed q.processor block s i c)
+      found_none m some_columns board.lines fit homed q.processor block d.known e i c
+      (supplier_none m some_columns board.lines fit homed q.processor block s i c)
 
   -- where the words come from
   data Supplied : Type 0 where
     by_cache : left ≡ d.effect.from_cache → d.supply.words ≡ truth block → Supplied
-    by_memory : left ≡ d.effect.from_memory → d.supply.words ≡ truth block → ((i : ℕ) → copy (at_in lines) block i → ⊥) → Supplied
+    by_memory : left ≡ d.effect.from_memory → d.supply.words ≡ truth block
+        → ((i : ℕ) → copy (at_in board.lines) block i → ⊥) → Supplied
 
   supplied_so : asks_for_block bus ≡ true → Supplied
-  supplied_so asks = by_copy (supplier_of m lines q.processor block) refl (asked_supply d asks)
+  supplied_so asks = by_copy (supplier_of m board.lines q.processor block) refl (asked_supply d asks)
     where
-      by_memory_if : supplier_of m lines q.processor block ≡ None → (b : Bool)
-          → ◌≡◌ {A = Result Supply Refusal} (cond b (Ok (record { words = mem.words block; from = Some Memory })) (Err (RefusedByMemory block Read))) (Ok d.supply)
+      by_memory_if : supplier_of m board.lines q.processor block ≡ None → (b : Bool)
+          → ◌≡◌ {A = Result Supply Refusal}
+          (cond b (Ok (record { words = board.memory.words block; from = Some Memory }))
+          (Err (RefusedByMemory block Read))) (Ok d.supply)
           → Supplied
       by_memory_if s true h =
-          let is = ok_same (record { words = mem.words block; from = Some Memory }) d.supply h in
+          let is = ok_same (record { words = board.memory.words block; from = Some Memory }) d.supply h in
           by_memory (ap (λ x. state_left d.effect x.from) (sym is))
-          (ap (λ x. x.words) (sym is) ∙ coherent.clean block (λ i c. absurd (none_there s i c))) (none_there s)
+          (ap (λ x. x.words) (sym is) ∙ coherent.clean block (λ i c. absurd (none_there s i c)))
+          (none_there s)
       by_memory_if s false h = absurd (cc)
 
-      by_copy : (r : Option ℕ) → supplier_of m lines q.processor block ≡ r → supplied_by m lines mem block r ≡ Ok d.supply → Supplied
+      by_copy : (r : Option ℕ) → supplier_of m board.lines q.processor block ≡ r
+          → supplied_by m board.lines board.memory block r ≡ Ok d.supply → Supplied
       by_copy (Some r) s h =
-          let is = ok_same (record { words = (line_at lines (line_of m lines r block)).words; from = Some (Cache r) }) d.supply h in
-          let there = supplier_some m some_columns lines fit homed q.processor block r s in
-          let at_place = found_at m some_columns lines fit homed r block there.place there.listed there.found in
+          let is = ok_same
+          (record {
+            words =
+                (line_at board.lines (line_of m board.lines r block)).words;
+            from = Some (Cache r);
+          }) d.supply h
+          in
+          let there = supplier_some m some_columns board.lines fit homed q.processor block r s in
+          let at_place =
+          found_at m some_columns board.lines fit homed r block there.place there.listed there.found in
           by_cache (ap (λ x. state_left d.effect x.from) (sym is))
-          (ap (λ x. x.words) (sym is) ∙ ap (λ p. (line_at lines p).words) there.found ∙ coherent.agree block there.place at_place.copied)
-      by_copy None s h = by_memory_if s (grants mem block) h
+          (ap (λ x. x.words) (sym is) ∙ ap (λ p. (line_at board.lines p).words) there.found
+          ∙ coherent.agree block there.place at_place.copied)
+      by_copy None s h = by_memory_if s (grants board.memory block) h
 
   -- a command that takes a way
   module _ (takes_one : is_unlock acting ≡ false) where
     abbrev pub way : Taken
-    way = taken_way m lines q.processor block (get_or ps q.processor resting).turn
+    way = taken_way m board.lines q.processor block (get_or board.processors q.processor resting).turn
 
     abbrev pub k : ℕ
     k = way.place
 
-    pub miss_taken : taken_with m ps lines locks mem q d.effect ≡ Some way
-    miss_taken = by_found (is_unlock acting) (valid (found m ps lines locks mem q)) takes_one (ap valid found_is)
+    pub miss_taken : taken_with m board q d.effect ≡ Some way
+    miss_taken = by_found (is_unlock acting) (valid (found m board q)) takes_one (ap valid found_is)
       where
         by_found : (u v : Bool) → u ≡ false → v ≡ false → cond (not u && not v) (Some way) None ≡ Some way
         by_found true v g h = absurd (cc)
@@ -114,32 +132,34 @@ module _ {m : Measures} (some_columns : 0 < m.columns) (some_ways : 0 < m.ways) 
         by_found false false g h = refl
 
     abbrev pub base : ℕ → Line
-    base = without (at_in lines) k
+    base = without (at_in board.lines) k
 
     abbrev pub miss_at : ℕ → Line
-    miss_at = placed_at m some_columns lines fit homed q.processor block d.known bus k own (made_named d)
+    miss_at = placed_at m some_columns board.lines fit homed q.processor block d.known bus k own
+        (made_named d)
 
     pub moved : Moved m base miss_at block k q.processor bus own
     moved =
-        miss_moved m some_columns lines fit homed q.processor block d.known bus k own (made_named d)
-        (way_home m some_columns some_ways lines fit q.processor block (get_or ps q.processor resting).turn d.known) e
+        miss_moved m some_columns board.lines fit homed q.processor block d.known bus k own (made_named d)
+        (way_home m some_columns some_ways board.lines fit q.processor block
+        (get_or board.processors q.processor resting).turn d.known) e
 
     cell : MissCell acting d.effect
     cell = miss acting d.effect takes_one cell_is
 
     abbrev pub base_words : ℕ → List ℕ
-    base_words = given_back (at_in lines) k mem.words
+    base_words = given_back (at_in board.lines) k board.memory.words
 
     pub base_coherent : Coherent base base_words truth
-    base_coherent = replaced (at_in lines) k mem.words truth coherent
+    base_coherent = replaced (at_in board.lines) k board.memory.words truth coherent
 
-    base_copy : (i : ℕ) → copy base block i → copy (at_in lines) block i
-    base_copy i c = copy_fewer (at_in lines) base (without_fewer (at_in lines) k) block i c
+    base_copy : (i : ℕ) → copy base block i → copy (at_in board.lines) block i
+    base_copy i c = copy_fewer (at_in board.lines) base (without_fewer (at_in board.lines) k) block i c
 
     abbrev Alone : Type 0
     Alone = Only moved
 
-    alone_none : ((i : ℕ) → copy (at_in lines) block i → ⊥) → Alone
+    alone_none : ((i : ℕ) → copy (at_in board.lines) block i → ⊥) → Alone
     alone_none none = only_copy moved (λ i c. absurd (none i (base_copy i c)))
 
     alone_fi : bus ≡ Some FI → Alone
@@ -148,11 +168,11 @@ module _ {m : Measures} (some_columns : 0 < m.columns) (some_ways : 0 < m.ways) 
     pub miss_lock_only : takes_lock q.command ≡ true → Alone
     miss_lock_only h = alone_fi (cell.locked_taking (takes_locked d h))
 
-    back : ((i : ℕ) → copy (at_in lines) block i → ⊥) → base_words block ≡ truth block
+    back : ((i : ℕ) → copy (at_in board.lines) block i → ⊥) → base_words block ≡ truth block
     back none = base_coherent.clean block (λ i c. absurd (none i (base_copy i c)))
 
     miss_here : copy base block k → ⊥
-    miss_here c = false≢true (sym (ap (holds_block block) (without_here (at_in lines) k)) ∙ c)
+    miss_here c = false≢true (sym (ap (holds_block block) (without_here (at_in board.lines) k)) ∙ c)
 
     abbrev MissKind : Type 0
     MissKind = Kind q.command q.address d.supply.words left moved base_coherent
@@ -170,10 +190,11 @@ module _ {m : Measures} (some_columns : 0 < m.columns) (some_ways : 0 < m.ways) 
     unasked_memory b = ap (λ x. state_left d.effect x.from) (unasked_supply d (ap asks_for_block b))
 
     -- a DW of a block that another cache has was refused
-    made_alone : is_direct_write acting ≡ true → (i : ℕ) → copy (at_in lines) block i → ⊥
+    made_alone : is_direct_write acting ≡ true → (i : ℕ) → copy (at_in board.lines) block i → ⊥
     made_alone h =
-        let nowhere = by_bools (is_direct_write acting) (valid (found m ps lines locks mem q)) _ h (ap valid found_is) d.alone in
-        none_there (by_some (supplier_of m lines q.processor block) (or_parts _ _ nowhere).0)
+        let nowhere =
+        by_bools (is_direct_write acting) (valid (found m board q)) _ h (ap valid found_is) d.alone in
+        none_there (by_some (supplier_of m board.lines q.processor block) (or_parts _ _ nowhere).0)
       where
         by_bools : (w v r : Bool) → w ≡ true → v ≡ false → (w && not v && r) ≡ false → r ≡ false
         by_bools true false r f g x = x
@@ -187,27 +208,40 @@ module _ {m : Measures} (some_columns : 0 < m.columns) (some_ways : 0 < m.ways) 
     miss_left : Left
     miss_left = by_miss cell.kind
       where
-        by_reads : bus ≡ Some F → d.effect.from_cache ≡ S → d.effect.from_memory ≡ EC → writes acting ≡ false → drops acting ≡ false → Supplied → MissKind
+        by_reads : bus ≡ Some F → d.effect.from_cache ≡ S → d.effect.from_memory ≡ EC
+            → writes acting ≡ false → drops acting ≡ false → Supplied → MissKind
         by_reads f s ec w dr (by_cache l ws) =
-            left_s f (l ∙ s) (same_words d w) (purging_is d false dr) (stale_by d w) (λ i c same. miss_here (subst (λ x. copy base block x) same c))
+            left_s f (l ∙ s) (same_words d w) (purging_is d false dr) (stale_by d w)
+            (λ i c same. miss_here (subst (λ x. copy base block x) same c))
         by_reads f s ec w dr (by_memory l ws none) =
-            left_ec (alone_none none) (l ∙ ec) (same_words d w) (purging_is d false dr) (stale_by d w) (back none)
+            left_ec (alone_none none) (l ∙ ec) (same_words d w) (purging_is d false dr) (stale_by d w)
+            (back none)
 
-        by_takes : bus ≡ Some FI → d.effect.from_cache ≡ EM → (d.effect.from_memory ≡ EM) ⊎ ((d.effect.from_memory ≡ EC) × (writes acting ≡ false))
+        by_takes : bus ≡ Some FI → d.effect.from_cache ≡ EM
+            → (d.effect.from_memory ≡ EM) ⊎ ((d.effect.from_memory ≡ EC) × (writes acting ≡ false))
             → drops acting ≡ false → Supplied → MissKind
         by_takes f em which dr (by_cache l ws) = left_em (alone_fi f) (l ∙ em) (purging_is d false dr)
-        by_takes f em (inl same) dr (by_memory l ws none) = left_em (alone_fi f) (l ∙ same) (purging_is d false dr)
+        by_takes f em (inl same) dr (by_memory l ws none) =
+            left_em (alone_fi f) (l ∙ same) (purging_is d false dr)
         by_takes f em (inr ec) dr (by_memory l ws none) =
-            left_ec (alone_fi f) (l ∙ ec.0) (same_words d ec.1) (purging_is d false dr) (stale_by d ec.1) (back none)
+            left_ec (alone_fi f) (l ∙ ec.0) (same_words d ec.1) (purging_is d false dr) (stale_by d ec.1)
+            (back none)
 
-        by_purges : bus ≡ Some FI → d.effect.from_cache ≡ I → d.effect.from_memory ≡ I → drops acting ≡ true → Supplied → MissKind
+        by_purges : bus ≡ Some FI → d.effect.from_cache ≡ I → d.effect.from_memory ≡ I
+            → drops acting ≡ true → Supplied → MissKind
         by_purges f c i dr (by_cache l ws) = left_i (alone_fi f) (l ∙ c) (purging_is d true dr)
         by_purges f c i dr (by_memory l ws none) = left_i (alone_fi f) (l ∙ i) (purging_is d true dr)
 
         by_miss : Miss acting d.effect → Left
-        by_miss (reads_shared f s ec w dr) = let given = supplied_so (ap asks_for_block f) in record { kind = by_reads f s ec w dr given; words = λ h. words_by given }
-        by_miss (takes f em which dr) = let given = supplied_so (ap asks_for_block f) in record { kind = by_takes f em which dr given; words = λ h. words_by given }
-        by_miss (purges f c i dr) = let given = supplied_so (ap asks_for_block f) in record { kind = by_purges f c i dr given; words = λ h. words_by given }
+        by_miss (reads_shared f s ec w dr) =
+            let given = supplied_so (ap asks_for_block f) in
+            record { kind = by_reads f s ec w dr given; words = λ h. words_by given }
+        by_miss (takes f em which dr) =
+            let given = supplied_so (ap asks_for_block f) in
+            record { kind = by_takes f em which dr given; words = λ h. words_by given }
+        by_miss (purges f c i dr) =
+            let given = supplied_so (ap asks_for_block f) in
+            record { kind = by_purges f c i dr given; words = λ h. words_by given }
         by_miss (makes n w em dr) = record {
           kind = left_em (alone_none (made_alone w)) (unasked_memory n ∙ em) (purging_is d false dr);
           words = λ h. absurd (false≢true (sym h ∙ fresh_made d ∙ w));

@@ -12,7 +12,8 @@ use Rattle.law.proofs.Hearing.{heard, heard_copy}
 use Rattle.law.proofs.Invariant.{copy, Coherent, Home, Homed}
 
 -- one place gets the command's own copy, other copies of the block hear the bus command, all else stays
-pub record Moved (m : Measures) (at after : ℕ → Line) (block k asking : ℕ) (bus : Option BusCommand) (own : Line) : Type 0 where
+pub record Moved (m : Measures) (at after : ℕ → Line) (block k asking : ℕ) (bus : Option BusCommand)
+    (own : Line) : Type 0 where
   pub place : after k ≡ own
   pub named : valid own.state ≡ true → own.block ≡ block
   pub owned : owner m k ≡ asking
@@ -21,7 +22,8 @@ pub record Moved (m : Measures) (at after : ℕ → Line) (block k asking : ℕ)
   pub mine : (i : ℕ) → copy at block i → owner m i ≡ asking → i ≡ k
   pub others : (i : ℕ) → (i ≡ k → ⊥) → after i ≡ cond (holds_block block (at i)) (heard bus (at i)) (at i)
 
-module _ {m : Measures} {at after : ℕ → Line} {block k asking : ℕ} {bus : Option BusCommand} {own : Line} (moved : Moved m at after block k asking bus own) where
+module _ {m : Measures} {at after : ℕ → Line} {block k asking : ℕ} {bus : Option BusCommand} {own : Line}
+    (moved : Moved m at after block k asking bus own) where
   -- another line after the command
   pub data Other (i : ℕ) : Type 0 where
     heard_it : holds_block block (at i) ≡ true → after i ≡ heard bus (at i) → Other i
@@ -56,7 +58,8 @@ module _ {m : Measures} {at after : ℕ → Line} {block k asking : ℕ} {bus : 
   ]
     where
       by_other : Other i → after i ≡ at i
-      by_other (heard_it was is) = absurd (else (sym (copy_block b (at i) c) ∙ copy_block block (at i) was))
+      by_other (heard_it was is) =
+          absurd (else (sym (copy_block b (at i) c) ∙ copy_block block (at i) was))
       by_other (stayed was is) = is
 
   pub same_after : (b i : ℕ) → (b ≡ block → ⊥) → copy after b i → copy at b i × (after i ≡ at i)
@@ -71,11 +74,13 @@ module _ {m : Measures} {at after : ℕ → Line} {block k asking : ℕ} {bus : 
     home = λ i v. elim (eqb_tells i k) [
       | inl same ↦
           let is : after i ≡ own = ap after same.1 ∙ moved.place in
-          let named : (after i).block ≡ block = ap (λ x. x.block) is ∙ moved.named (subst (λ x. valid x.state ≡ true) is v) in
+          let named : (after i).block ≡ block =
+          ap (λ x. x.block) is ∙ moved.named (subst (λ x. valid x.state ≡ true) is v) in
           subst (λ x. Home m x i) (sym named) (subst (λ x. Home m block x) (sym same.1) moved.home)
       | inr far ↦
           let was = before (after i).block i far.1 (copy_from (after i).block (after i) v refl) in
-          subst (λ x. Home m x i) (copy_block (after i).block (at i) was) (h.home i (copy_valid (after i).block (at i) was))
+          subst (λ x. Home m x i) (copy_block (after i).block (at i) was)
+          (h.home i (copy_valid (after i).block (at i) was))
     ];
     once = λ b i j ci cj same_owner. elim (eqb_tells i k) [
       | inl si ↦ elim (eqb_tells j k) [
@@ -101,30 +106,36 @@ module _ {m : Measures} {at after : ℕ → Line} {block k asking : ℕ} {bus : 
   -- what is coherent of other blocks stays so, whatever becomes of the block itself
   pub coherent_after : {mem truth : ℕ → List ℕ} (words : List ℕ) → Coherent at mem truth
       → ((i j : ℕ) → copy after block i → copy after block j → exclusive (after i).state ≡ true → j ≡ i)
-      → ((i j : ℕ) → copy after block i → copy after block j → modified (after i).state ≡ true → modified (after j).state ≡ true → j ≡ i)
+      → ((i j : ℕ) → copy after block i → copy after block j → modified (after i).state ≡ true
+      → modified (after j).state ≡ true → j ≡ i)
       → ((i : ℕ) → copy after block i → (after i).words ≡ words)
       → (((i : ℕ) → copy after block i → modified (after i).state ≡ false) → mem block ≡ words)
       → Coherent after mem (truth_after words truth)
   coherent_after {mem = mem} words c alone single agree clean = record {
     alone = λ b i j ci cj x. elim (eqb_tells b block) [
-      | inl same ↦ alone i j (subst (λ y. copy after y i) same.1 ci) (subst (λ y. copy after y j) same.1 cj) x
+      | inl same ↦ alone i j (subst (λ y. copy after y i) same.1 ci)
+          (subst (λ y. copy after y j) same.1 cj) x
       | inr else ↦
           let si = same_after b i else.1 ci in
           c.alone b i j si.0 (same_after b j else.1 cj).0 (ap (λ y. exclusive y.state) (sym si.1) ∙ x)
     ];
     single = λ b i j ci cj x y. elim (eqb_tells b block) [
-      | inl same ↦ single i j (subst (λ z. copy after z i) same.1 ci) (subst (λ z. copy after z j) same.1 cj) x y
+      | inl same ↦ single i j (subst (λ z. copy after z i) same.1 ci)
+          (subst (λ z. copy after z j) same.1 cj) x y
       | inr else ↦
           let si = same_after b i else.1 ci in
           let sj = same_after b j else.1 cj in
-          c.single b i j si.0 sj.0 (ap (λ z. modified z.state) (sym si.1) ∙ x) (ap (λ z. modified z.state) (sym sj.1) ∙ y)
+          c.single b i j si.0 sj.0 (ap (λ z. modified z.state) (sym si.1) ∙ x)
+          (ap (λ z. modified z.state) (sym sj.1) ∙ y)
     ];
     agree = λ b i ci. elim (eqb_tells b block) [
       | inl same ↦ agree i (subst (λ y. copy after y i) same.1 ci) ∙ (rw same.0 refl)
-      | inr else ↦ let si = same_after b i else.1 ci in ap (λ z. z.words) si.1 ∙ c.agree b i si.0 ∙ (rw else.0 refl)
+      | inr else ↦ let si =
+          same_after b i else.1 ci in ap (λ z. z.words) si.1 ∙ c.agree b i si.0 ∙ (rw else.0 refl)
     ];
     clean = λ b all. elim (eqb_tells b block) [
-      | inl same ↦ ap mem same.1 ∙ clean (λ i ci. all i (subst (λ y. copy after y i) (sym same.1) ci)) ∙ (rw same.0 refl)
+      | inl same ↦ ap mem same.1 ∙ clean (λ i ci. all i (subst (λ y. copy after y i) (sym same.1) ci))
+          ∙ (rw same.0 refl)
       | inr else ↦
           c.clean b (λ i ci.
           let is = same_before b i else.1 ci in

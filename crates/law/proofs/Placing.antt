@@ -26,7 +26,8 @@ by_both : (h o : Bool) (x y : Line) → (h ≡ true → o ≡ false) → cond (h
 by_both false o x y f = refl
 by_both true o x y f = ap (λ b. cond (not b) x y) (f refl)
 
-module _ (m : Measures) (some_columns : 0 < m.columns) (lines : List Line) (fit : length lines ≡ line_count m) (homed : Homed m (at_in lines))
+module _ (m : Measures) (some_columns : 0 < m.columns) (lines : List Line)
+    (fit : length lines ≡ line_count m) (homed : Homed m (at_in lines))
     (p block : ℕ) (listed : p < m.processors) (bus : Option BusCommand) where
   abbrev pub seen : List Line
   seen = bus_seen m bus p block lines
@@ -39,7 +40,8 @@ module _ (m : Measures) (some_columns : 0 < m.columns) (lines : List Line) (fit 
       by_bus (Some b) = length_others_snooped m some_columns b p block lines
 
   seen_at : (i : ℕ) → (copy (at_in lines) block i → owner m i ≡ p → ⊥)
-      → at_in seen i ≡ cond (holds_block block (at_in lines i)) (heard bus (at_in lines i)) (at_in lines i)
+      → at_in seen i ≡ cond (holds_block block (at_in lines i)) (heard bus (at_in lines i))
+      (at_in lines i)
   seen_at i far = by_bus bus
     where
       same : (h : Bool) (x : Line) → x ≡ cond h x x
@@ -52,11 +54,14 @@ module _ (m : Measures) (some_columns : 0 < m.columns) (lines : List Line) (fit 
         | inr other ↦ other.0
       ]
 
-      by_bus : (b : Option BusCommand) → at_in (bus_seen m b p block lines) i ≡ cond (holds_block block (at_in lines i)) (heard b (at_in lines i)) (at_in lines i)
+      by_bus : (b : Option BusCommand)
+          → at_in (bus_seen m b p block lines) i
+          ≡ cond (holds_block block (at_in lines i)) (heard b (at_in lines i)) (at_in lines i)
       by_bus None = same (holds_block block (at_in lines i)) (at_in lines i)
       by_bus (Some b) =
           snooped_at_places m some_columns b p block lines fit homed i
-          ∙ by_both (holds_block block (at_in lines i)) (eqb (owner m i) p) (heard (Some b) (at_in lines i)) (at_in lines i) else
+          ∙ by_both (holds_block block (at_in lines i)) (eqb (owner m i) p)
+          (heard (Some b) (at_in lines i)) (at_in lines i) else
 
   module _ (k : ℕ) (own : Line) (named : valid own.state ≡ true → own.block ≡ block) where
     abbrev pub placed_at : ℕ → Line
@@ -76,27 +81,35 @@ module _ (m : Measures) (some_columns : 0 < m.columns) (lines : List Line) (fit 
     hit_moved e =
         let found = found_at m some_columns lines fit homed p block k listed e in
         record {
-          place = put_there (window_inside_table m some_columns lines fit (owner m k) block k found.home.listed found.home.to);
+          place = put_there
+              (window_inside_table m some_columns lines fit (owner m k) block k found.home.listed
+              found.home.to);
           named = named;
           owned = found.owned;
           home = found.home;
-          here = λ b c. sym (copy_block b (at_in lines k) c) ∙ copy_block block (at_in lines k) found.copied;
+          here = λ b c. sym (copy_block b (at_in lines k) c)
+              ∙ copy_block block (at_in lines k) found.copied;
           mine = λ i c o. homed.once block i k c found.copied (o ∙ sym found.owned);
-          others = λ i far. put_elsewhere i far ∙ seen_at i (λ c o. far (homed.once block i k c found.copied (o ∙ sym found.owned)));
+          others = λ i far. put_elsewhere i far
+              ∙ seen_at i (λ c o. far (homed.once block i k c found.copied (o ∙ sym found.owned)));
         }
 
     -- where it does not, and takes a way: the line there is gone before
-    pub miss_moved : WayHome m lines p block k → line_of m lines p block ≡ None → Moved m (without (at_in lines) k) placed_at block k p bus own
+    pub miss_moved : WayHome m lines p block k → line_of m lines p block ≡ None
+        → Moved m (without (at_in lines) k) placed_at block k p bus own
     miss_moved way e = record {
       place = put_there way.inside;
       named = named;
       owned = way.owned;
       home = way.home;
       here = λ b c. absurd (false≢true (sym (ap (holds_block b) (without_here (at_in lines) k)) ∙ c));
-      mine = λ i c o. absurd (none i (copy_fewer (at_in lines) (without (at_in lines) k) (without_fewer (at_in lines) k) block i c) o);
+      mine = λ i c o. absurd
+          (none i (copy_fewer (at_in lines) (without (at_in lines) k) (without_fewer (at_in lines) k)
+          block i c) o);
       others = λ i far.
           let stays = without_elsewhere (at_in lines) k i far in
-          put_elsewhere i far ∙ seen_at i (none i) ∙ ap (λ x. cond (holds_block block x) (heard bus x) x) (sym stays);
+          put_elsewhere i far ∙ seen_at i (none i)
+          ∙ ap (λ x. cond (holds_block block x) (heard bus x) x) (sym stays);
     }
       where
         none : (i : ℕ) → copy (at_in lines) block i → owner m i ≡ p → ⊥

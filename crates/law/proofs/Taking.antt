@@ -18,7 +18,8 @@ pub record WayHome (m : Measures) (lines : List Line) (p block place : ℕ) : Ty
   pub owned : owner m place ≡ p
   pub inside : place < length lines
 
-module _ (m : Measures) (some_columns : 0 < m.columns) (some_ways : 0 < m.ways) (lines : List Line) (fit : length lines ≡ line_count m)
+module _ (m : Measures) (some_columns : 0 < m.columns) (some_ways : 0 < m.ways) (lines : List Line)
+    (fit : length lines ≡ line_count m)
     (p block turn : ℕ) (listed : p < m.processors) where
   abbrev start : ℕ
   start = window_start m p block
@@ -34,14 +35,16 @@ module _ (m : Measures) (some_columns : 0 < m.columns) (some_ways : 0 < m.ways) 
         inside = window_inside_table m some_columns lines fit p block place listed high;
       }
 
-  found : (place : ℕ) → free_way m lines p block ≡ Some place → Stands is_free lines start m.ways no_line place
+  found : (place : ℕ) → free_way m lines p block ≡ Some place
+      → Stands is_free lines start m.ways no_line place
   found place e = stands is_free lines start m.ways no_line place e
 
   -- whether it is free or by turn
   pub way_home : WayHome m lines p block (taken_way m lines p block turn).place
   way_home = by_free (free_way m lines p block) refl
     where
-      by_free : (o : Option ℕ) → free_way m lines p block ≡ o → WayHome m lines p block (chosen_way o (start + turn % m.ways)).place
+      by_free : (o : Option ℕ) → free_way m lines p block ≡ o
+          → WayHome m lines p block (chosen_way o (start + turn % m.ways)).place
       by_free (Some place) e = let free = found place e in way_in place free.from free.to
       by_free None e =
           let low : turn % m.ways < m.ways = mod-lt turn some_ways in

@@ -16,11 +16,14 @@ use Rattle.cluster.specs.Cases.{by_turn}
 use Rattle.cluster.specs.Finishing.{turns_after, processors_after, way_taken}
 use Rattle.cluster.specs.Locks.{locks_from}
 use Rattle.cluster.specs.Making.{resting, blank_entry}
-use Rattle.cluster.specs.Rule.{Outcome}
+use Rattle.cluster.specs.Rule.{command_rule}
 use Rattle.cluster.specs.Settling.{locks_settled, ul_sent}
 use Rattle.cluster.specs.Waiting.{awaited_in}
-use Rattle.law.specs.Accounts.{Accounts, new_board, LocksAreTold}
-use Rattle.law.specs.Calls.{Call, command, drain, census, question, Board, command_on, said_by, left_by}
+use Rattle.protocol.specs.declared.refusal.Refusal.TheVariants.{TableLength}
+use Rattle.upkeep.specs.Counting.{lines_fit}
+use Rattle.upkeep.specs.Draining.{drain_from, costed, drain_rule}
+use Rattle.law.specs.Accounts.{Accounts, LocksAreTold}
+use Rattle.law.specs.Calls.{Call, command, drain, census, question, said_by, left_by}
 use Rattle.law.specs.Ledger.{Ledger, opened, fed}
 use Rattle.law.proofs.Awaits.{waits_kept}
 use Rattle.law.proofs.Holds.{held_by, holds_kept}
@@ -30,13 +33,17 @@ use Rattle.law.proofs.Windows.{first_counted, length-map, seen-replicate}
 use Rattle.std.specs.List.{count_by}
 use Rattle.std.proofs.lemmas.List.Folds.{sum_by-replicate}
 use Rattle.std.proofs.lemmas.List.Sums.{sum_by-take-drop, sum_by-take-le}
+use Rattle.protocol.specs.declared.answer.Answer.{Answer}
+use Rattle.cluster.specs.Board.{Board, Outcome, refusing, new_board}
 
 -- the tables keep their lengths
-length_settled : (c : Command) (a : ℕ) (locks : List LockEntry) (entry : Option ℕ) → length (locks_settled c a locks entry) ≡ length locks
+length_settled : (c : Command) (a : ℕ) (locks : List LockEntry) (entry : Option ℕ)
+    → length (locks_settled c a locks entry) ≡ length locks
 length_settled c a locks None = refl
 length_settled c a locks (Some place) = length-set locks place _
 
-length_processors : (m : Measures) (ps : List Processor) (locks : List LockEntry) (c : Case) (taken : Option Taken)
+length_processors : (m : Measures) (ps : List Processor) (locks : List LockEntry) (c : Case)
+    (taken : Option Taken)
     → length (processors_after m ps locks c taken) ≡ length ps
 length_processors m ps locks c taken = by_both (ul_sent c.command locks c.entry) (by_turn taken) refl refl
   where
@@ -44,20 +51,43 @@ length_processors m ps locks c taken = by_both (ul_sent c.command locks c.entry)
     turned true e = rw e (length-set ps c.processor _)
     turned false e = rw e refl
 
-    by_both : (u t : Bool) → ul_sent c.command locks c.entry ≡ u → by_turn taken ≡ t → length (processors_after m ps locks c taken) ≡ length ps
+    by_both : (u t : Bool) → ul_sent c.command locks c.entry ≡ u → by_turn taken ≡ t
+        → length (processors_after m ps locks c taken) ≡ length ps
     by_both true t e f = rw e (length-map _ 0 (turns_after m ps c taken) ∙ turned t f)
     by_both false t e f = rw e (turned t f)
 
-module _ (m : Measures) (ps : List Processor) (lines : List Line) (locks : List LockEntry) (mem : Mem) (q : Request) where
-  locks_long : (o : Outcome) → Shape m ps lines locks mem q o → length o.locks ≡ length locks
-  locks_long o (refused e is) = ap (λ x. length x.locks) is
-  locks_long o (waited w) = ap (λ x. length x.locks) w.is ∙ length-map _ 0 locks
-  locks_long o (finished f) = ap (λ x. length x.locks) f.is ∙ length_settled f.case.command f.case.address locks f.case.entry
+module _ (m : Measures) (board : Board) (q : Request) where
+  locks_long : (o : Outcome Answer) → Shape m board q o → length o.board.locks ≡ length board.locks
+  locks_long o (refused e is) = ap (λ x. length x.board.locks) is
+  locks_long o (waited w) = ap (λ x. length x.board.locks) w.is ∙ length-map _ 0 board.locks
+  locks_long o (finished f) =
+      ap (λ x. length x.board.locks) f.is
+      ∙ length_settled f.case.command f.case.address board.locks f.case.entry
 
-  processors_long : (o : Outcome) → Shape m ps lines locks mem q o → length o.processors ≡ length ps
-  processors_long o (refused e is) = ap (λ x. length x.processors) is
-  processors_long o (waited w) = ap (λ x. length x.processors) w.is ∙ length-set ps w.case.processor _
-  processors_long o (finished f) = ap (λ x. length x.processors) f.is ∙ length_processors m ps locks f.case (way_taken m ps lines f.case)
+  processors_long : (o : Outcome Answer) → Shape m board q o
+      → length o.board.processors ≡ length board.processors
+  processors_long o (refused e is) = ap (λ x. length x.board.processors) is
+  processors_long o (waited w) =
+      ap (λ x. length x.board.processors) w.is ∙ length-set board.processors w.case.processor _
+  processors_long o (finished f) =
+      ap (λ x. length x.board.processors) f.is
+      ∙ length_processors m board.processors board.locks f.case
+      (way_taken m board.processors board.lines f.case)
+
+-- a drain leaves processors and locks
+pub drain_left : (m : Measures) (b : Board)
+    → ((drain_rule m b).board.processors ≡ b.processors) × ((drain_rule m b).board.locks ≡ b.locks)
+unfolding drain_rule
+drain_left m b = by_fit (lines_fit m b.lines)
+  where
+    by_fit : (f : Bool)
+        → let d = drain_from 0 b.lines b.memory in
+        let o = cond f
+        (record { answer = costed m d.answer; board = record b { lines = d.lines; memory = d.memory } })
+        (refusing b TableLength) in
+        (o.board.processors ≡ b.processors) × (o.board.locks ≡ b.locks)
+    by_fit true = (refl, refl)
+    by_fit false = (refl, refl)
 
 -- what is kept from call to call
 pub record Kept (m : Measures) (b : Board) (l : Ledger) : Type 0 where
@@ -73,22 +103,31 @@ some_one false = refl
 pub accounts : (m : Measures) (b : Board) (l : Ledger) → Kept m b l → Accounts m b l
 accounts m b l k = record {
   locks = λ p a h.
-      first_counted (locks_from a a) (locks_start m p) (window_of (locks_start m p) m.lock_entries b.locks)
+      first_counted (locks_from a a) (locks_start m p)
+      (window_of (locks_start m p) m.lock_entries b.locks)
       ∙ ap (ltb 0) (k.held p h a) ∙ some_one (l.holds p a);
   waits = k.waits;
 }
 
-pub kept_on : (m : Measures) (b : Board) (l : Ledger) → m.processors ≤ 8 → Kept m b l → (call : Call) → Kept m (left_by m b call) (fed call (said_by m b call) l)
+pub kept_on : (m : Measures) (b : Board) (l : Ledger) → m.processors ≤ 8 → Kept m b l → (call : Call)
+    → Kept m (left_by m b call) (fed call (said_by m b call) l)
 kept_on m b l few k (command q) =
-    let way = shape m b.processors b.lines b.locks b.memory q in
-    let o = command_on m b q in
+    let way = shape m b q in
+    let o = command_rule m b q in
     record {
-      eight = processors_long m b.processors b.lines b.locks b.memory q o way ∙ k.eight;
-      fit = locks_long m b.processors b.lines b.locks b.memory q o way ∙ k.fit;
-      waits = waits_kept m b.processors b.lines b.locks b.memory q l k.eight few k.waits o way;
-      held = holds_kept m b.processors b.lines b.locks b.memory q l k.held o way;
+      eight = processors_long m b q o way ∙ k.eight;
+      fit = locks_long m b q o way ∙ k.fit;
+      waits = waits_kept m b q l k.eight few k.waits o way;
+      held = holds_kept m b q l k.held o way;
     }
-kept_on m b l few k drain = record { eight = k.eight; fit = k.fit; waits = k.waits; held = k.held }
+kept_on m b l few k drain =
+    let left = drain_left m b in
+    record {
+      eight = ap length left.0 ∙ k.eight;
+      fit = ap length left.1 ∙ k.fit;
+      waits = λ r. ap (λ ps. awaited_in m ps r) left.0 ∙ k.waits r;
+      held = λ p h a. ap (λ ls. held_by m ls p a) left.1 ∙ k.held p h a;
+    }
 kept_on m b l few k census = k
 kept_on m b l few k (question address) = k
 
@@ -116,4 +155,5 @@ new_kept m mem = record {
 pub locks_told : LocksAreTold
 locks_told g mem =
     let m = g.measures in
-    throughout m (Accounts m) (Kept m) (accounts m) (λ b l. kept_on m b l g.few_processors) (new_board m mem) (opened mem) (new_kept m mem)
+    throughout m (Accounts m) (Kept m) (accounts m) (λ b l. kept_on m b l g.few_processors)
+    (new_board m mem) (opened mem) (new_kept m mem)

@@ -35,7 +35,8 @@ fresh LR address = false
 fresh (UW word) address = false
 fresh U address = false
 
-pub answered_is : (c : Command) (address : ℕ) (ws : List ℕ) → reads c ≡ true → word_answered c address ws ≡ get_or ws (address % 4) 0
+pub answered_is : (c : Command) (address : ℕ) (ws : List ℕ) → reads c ≡ true
+    → word_answered c address ws ≡ get_or ws (address % 4) 0
 answered_is R address ws h = refl
 answered_is (W word) address ws h = absurd (cc)
 answered_is (DW word) address ws h = absurd (cc)
@@ -53,24 +54,34 @@ abbrev words_after : Command → ℕ → Ledger → ℕ → Option ℕ
 words_after R address l x = l.words x
 words_after (W word) address l x = one_more address word l x
 words_after (DW word) address l x =
-    cond (eqb (address % 4) 0) (cond (eqb (block_of x) (block_of address)) (Some (cond (eqb x address) word 0)) (l.words x)) (one_more address word l x)
+    cond (eqb (address % 4) 0)
+    (cond (eqb (block_of x) (block_of address)) (Some (cond (eqb x address) word 0)) (l.words x))
+    (one_more address word l x)
 words_after RI address l x = l.words x
 words_after RP address l x = cond (eqb (block_of x) (block_of address)) None (l.words x)
-words_after RB address l x = cond (eqb (address % 4) 3) (cond (eqb (block_of x) (block_of address)) None (l.words x)) (l.words x)
+words_after RB address l x =
+    cond (eqb (address % 4) 3) (cond (eqb (block_of x) (block_of address)) None (l.words x)) (l.words x)
 words_after LR address l x = l.words x
 words_after (UW word) address l x = one_more address word l x
 words_after U address l x = l.words x
 
-pub done_words : (c : Command) (processor address : ℕ) (b : Bool) (l : Ledger) (x : ℕ) → (done_by processor address b c l).words x ≡ words_after c address l x
+pub done_words : (c : Command) (processor address : ℕ) (b : Bool) (l : Ledger) (x : ℕ)
+    → (done_by processor address b c l).words x ≡ words_after c address l x
 done_words R processor address b l x = refl
 done_words (W word) processor address b l x = refl
 done_words (DW word) processor address b l x = by_start (eqb (address % 4) 0)
   where
     by_start : (s : Bool)
         → (cond {A = Ledger} s
-        (record { words = λ a. cond (eqb (block_of a) (block_of address)) (Some (cond (eqb a address) word 0)) (l.words a); holds = l.holds; waits = l.waits })
+        (record {
+          words = λ a.
+              cond (eqb (block_of a) (block_of address)) (Some (cond (eqb a address) word 0)) (l.words a);
+          holds = l.holds;
+          waits = l.waits;
+        })
         (record { words = λ a. one_more address word l a; holds = l.holds; waits = l.waits })).words x
-        ≡ cond s (cond (eqb (block_of x) (block_of address)) (Some (cond (eqb x address) word 0)) (l.words x)) (one_more address word l x)
+        ≡ cond s (cond (eqb (block_of x) (block_of address)) (Some (cond (eqb x address) word 0))
+        (l.words x)) (one_more address word l x)
     by_start true = refl
     by_start false = refl
 done_words RI processor address b l x = refl
@@ -78,13 +89,22 @@ done_words RP processor address b l x = refl
 done_words RB processor address b l x = by_last (eqb (address % 4) 3)
   where
     by_last : (s : Bool)
-        → (cond {A = Ledger} s (record { words = λ a. cond (eqb (block_of a) (block_of address)) None (l.words a); holds = l.holds; waits = l.waits }) l).words x
+        → (cond {A = Ledger} s
+        (record {
+          words =
+              λ a. cond (eqb (block_of a) (block_of address)) None (l.words a);
+          holds =
+              l.holds;
+          waits = l.waits;
+        }) l).words x
         ≡ cond s (cond (eqb (block_of x) (block_of address)) None (l.words x)) (l.words x)
     by_last true = refl
     by_last false = refl
 done_words LR processor address b l x = refl
-done_words (UW word) processor address b l x = cond_both b _ _ (λ (k : Ledger). k.words x ≡ one_more address word l x) (λ e. refl) (λ e. refl)
-done_words U processor address b l x = cond_both b _ _ (λ (k : Ledger). k.words x ≡ l.words x) (λ e. refl) (λ e. refl)
+done_words (UW word) processor address b l x =
+    cond_both b _ _ (λ (k : Ledger). k.words x ≡ one_more address word l x) (λ e. refl) (λ e. refl)
+done_words U processor address b l x =
+    cond_both b _ _ (λ (k : Ledger). k.words x ≡ l.words x) (λ e. refl) (λ e. refl)
 
 three_zeros : (word n : ℕ) → (n ≡ 0 → ⊥) → get_or (word ∷ (0 ∷ (0 ∷ (0 ∷ [])))) n 0 ≡ 0
 three_zeros word zero h = absurd (h refl)
@@ -101,7 +121,8 @@ module _ (truth : ℕ → List ℕ) (l : Ledger) (tied : Tied truth l) (address 
   with_words ws b = cond (eqb b block) ws (truth b)
 
   four_with : (ws : List ℕ) → length ws ≡ 4 → (b : ℕ) → length (with_words ws b) ≡ 4
-  four_with ws long b = cond_both (eqb b block) ws (truth b) (λ (x : List ℕ). length x ≡ 4) (λ e. long) (λ e. tied.four b)
+  four_with ws long b =
+      cond_both (eqb b block) ws (truth b) (λ (x : List ℕ). length x ≡ 4) (λ e. long) (λ e. tied.four b)
 
   -- by what the ledger has at each address of the block, and elsewhere
   tied_by : (ws : List ℕ) (after : Ledger) → length ws ≡ 4
@@ -111,18 +132,23 @@ module _ (truth : ℕ → List ℕ) (l : Ledger) (tied : Tied truth l) (address 
   tied_by ws after long here there = record {
     four = four_with ws long;
     words = λ x word e. elim (eqb_tells (block_of x) block) [
-      | inl same ↦ ap (λ b. get_or (cond b ws (truth (block_of x))) (x % 4) 0) same.0 ∙ here x word same.1 e
-      | inr else ↦ ap (λ b. get_or (cond b ws (truth (block_of x))) (x % 4) 0) else.0 ∙ tied.words x word (sym (there x else.1) ∙ e)
+      | inl same ↦ ap (λ b. get_or (cond b ws (truth (block_of x))) (x % 4) 0) same.0
+          ∙ here x word same.1 e
+      | inr else ↦ ap (λ b. get_or (cond b ws (truth (block_of x))) (x % 4) 0) else.0
+          ∙ tied.words x word (sym (there x else.1) ∙ e)
     ];
   }
 
-  plain : (ws : List ℕ) → ws ≡ truth block → (after : Ledger) → ((x : ℕ) → after.words x ≡ l.words x) → Tied (with_words ws) after
+  plain : (ws : List ℕ) → ws ≡ truth block → (after : Ledger) → ((x : ℕ) → after.words x ≡ l.words x)
+      → Tied (with_words ws) after
   plain ws is after same =
       tied_by ws after (ap length is ∙ tied.four block)
-      (λ x word at e. ap (λ z. get_or z (x % 4) 0) (is ∙ ap truth (sym at)) ∙ tied.words x word (sym (same x) ∙ e))
+      (λ x word at e. ap (λ z. get_or z (x % 4) 0) (is ∙ ap truth (sym at))
+      ∙ tied.words x word (sym (same x) ∙ e))
       (λ x else. same x)
 
-  entering : (ws : List ℕ) (new : ℕ) → ws ≡ truth block → (after : Ledger) → ((x : ℕ) → after.words x ≡ one_more address new l x)
+  entering : (ws : List ℕ) (new : ℕ) → ws ≡ truth block → (after : Ledger)
+      → ((x : ℕ) → after.words x ≡ one_more address new l x)
       → Tied (with_words (set ws (address % 4) new)) after
   entering ws new is after same =
       tied_by (set ws (address % 4) new) after (length-set ws (address % 4) new ∙ long)
@@ -133,7 +159,8 @@ module _ (truth : ℕ → List ℕ) (l : Ledger) (tied : Tied truth l) (address 
             ∙ same_Some new word (sym (same x ∙ (rw here.0 refl)) ∙ e)
         | inr else ↦
             get_or-set_other ws (address % 4) (x % 4) new 0 (λ low. else.1 (omega (arith, at, low)))
-            ∙ ap (λ z. get_or z (x % 4) 0) (is ∙ ap truth (sym at)) ∙ tied.words x word (sym (same x ∙ (rw else.0 refl)) ∙ e)
+            ∙ ap (λ z. get_or z (x % 4) 0) (is ∙ ap truth (sym at))
+            ∙ tied.words x word (sym (same x ∙ (rw else.0 refl)) ∙ e)
       ])
       (λ x else. same x ∙ elim (eqb_tells x address) [
         | inl here ↦ absurd (else (ap block_of here.1))
@@ -144,7 +171,8 @@ module _ (truth : ℕ → List ℕ) (l : Ledger) (tied : Tied truth l) (address 
       long = ap length is ∙ tied.four block
 
   starting : (new : ℕ) → address % 4 ≡ 0 → (after : Ledger)
-      → ((x : ℕ) → after.words x ≡ cond (eqb (block_of x) block) (Some (cond (eqb x address) new 0)) (l.words x))
+      → ((x : ℕ) → after.words x ≡ cond (eqb (block_of x) block) (Some (cond (eqb x address) new 0))
+      (l.words x))
       → Tied (with_words (new ∷ (0 ∷ (0 ∷ (0 ∷ []))))) after
   starting new start after same =
       tied_by (new ∷ (0 ∷ (0 ∷ (0 ∷ [])))) after refl
@@ -163,7 +191,8 @@ module _ (truth : ℕ → List ℕ) (l : Ledger) (tied : Tied truth l) (address 
         | inr far ↦ (rw far.0 refl)
       ])
 
-  purged_block : (ws : List ℕ) → length ws ≡ 4 → (after : Ledger) → ((x : ℕ) → after.words x ≡ cond (eqb (block_of x) block) None (l.words x))
+  purged_block : (ws : List ℕ) → length ws ≡ 4 → (after : Ledger)
+      → ((x : ℕ) → after.words x ≡ cond (eqb (block_of x) block) None (l.words x))
       → Tied (with_words ws) after
   purged_block ws long after same =
       tied_by ws after long
@@ -183,7 +212,8 @@ module _ (truth : ℕ → List ℕ) (l : Ledger) (tied : Tied truth l) (address 
     is_words : (c : Command) (x : ℕ) → (after_done c).words x ≡ words_after c address l x
     is_words c x = done_words c processor address b l x
 
-    pub tied_purged : (c : Command) → purging c address ≡ true → (ws : List ℕ) → length ws ≡ 4 → Tied (with_words ws) (after_done c)
+    pub tied_purged : (c : Command) → purging c address ≡ true → (ws : List ℕ) → length ws ≡ 4
+        → Tied (with_words ws) (after_done c)
     tied_purged R h ws long = absurd (cc)
     tied_purged (W word) h ws long = absurd (cc)
     tied_purged (DW word) h ws long = absurd (cc)
@@ -194,18 +224,21 @@ module _ (truth : ℕ → List ℕ) (l : Ledger) (tied : Tied truth l) (address 
     tied_purged (UW word) h ws long = absurd (cc)
     tied_purged U h ws long = absurd (cc)
 
-    pub tied_words : (c : Command) → purging c address ≡ false → (ws : List ℕ) → (fresh c address ≡ false → ws ≡ truth block)
+    pub tied_words : (c : Command) → purging c address ≡ false → (ws : List ℕ)
+        → (fresh c address ≡ false → ws ≡ truth block)
         → Tied (with_words (words_left c address ws)) (after_done c)
     tied_words R h ws is = plain ws (is refl) (after_done R) (is_words R)
     tied_words (W word) h ws is = entering ws word (is refl) (after_done (W word)) (is_words (W word))
     tied_words (DW word) h ws is = by_start (eqb (address % 4) 0) refl
       where
         by_start : (s : Bool) → eqb (address % 4) 0 ≡ s
-            → Tied (with_words (cond s (word ∷ (0 ∷ (0 ∷ (0 ∷ [])))) (set ws (address % 4) word))) (after_done (DW word))
+            → Tied (with_words (cond s (word ∷ (0 ∷ (0 ∷ (0 ∷ [])))) (set ws (address % 4) word)))
+            (after_done (DW word))
         by_start true e =
             let start : address % 4 ≡ 0 = grind (arith, nat_tests, e) in
             starting word start (after_done (DW word)) (λ x. is_words (DW word) x ∙ (rw e refl))
-        by_start false e = entering ws word (is e) (after_done (DW word)) (λ x. is_words (DW word) x ∙ (rw e refl))
+        by_start false e =
+            entering ws word (is e) (after_done (DW word)) (λ x. is_words (DW word) x ∙ (rw e refl))
     tied_words RI h ws is = plain ws (is refl) (after_done RI) (is_words RI)
     tied_words RP h ws is = absurd (cc)
     tied_words RB h ws is = plain ws (is refl) (after_done RB) (λ x. is_words RB x ∙ (rw h refl))
@@ -214,5 +247,7 @@ module _ (truth : ℕ → List ℕ) (l : Ledger) (tied : Tied truth l) (address 
     tied_words U h ws is = plain ws (is refl) (after_done U) (is_words U)
 
 -- a command that is not done changes none
-pub tied_same : (truth : ℕ → List ℕ) (l after : Ledger) → Tied truth l → ((x : ℕ) → after.words x ≡ l.words x) → Tied truth after
-tied_same truth l after tied same = record { four = tied.four; words = λ x word e. tied.words x word (sym (same x) ∙ e) }
+pub tied_same : (truth : ℕ → List ℕ) (l after : Ledger) → Tied truth l
+    → ((x : ℕ) → after.words x ≡ l.words x) → Tied truth after
+tied_same truth l after tied same =
+    record { four = tied.four; words = λ x word e. tied.words x word (sym (same x) ∙ e) }

@@ -3,7 +3,8 @@ use Rattle.std.specs.Prelude.{◌≡◌, Bool, true, false, not, Ok, Err, Result
 use Rattle.protocol.specs.declared.measures.Measures.{Measures}
 use Rattle.protocol.specs.declared.refusal.Refusal.{Refusal}
 use Rattle.protocol.specs.declared.refusal.Refusal.TheVariants as refusal
-use Rattle.law.specs.Calls.{Call, Said, answered, drained, counted, told, Board, said_by, left_by}
+use Rattle.cluster.specs.Board.{Board}
+use Rattle.law.specs.Calls.{Call, Said, answered, drained, counted, told, said_by, left_by}
 
 abbrev refuses : {X : Type 0} → Result X Refusal → Bool
 refuses (Ok x) = false
@@ -39,4 +40,6 @@ refused (told r) = refuses r
 
 -- for every cluster, whatever its tables and its memory hold
 abbrev pub RefusalsChangeNothing : Type 0
-RefusalsChangeNothing = (m : Measures) (b : Board) (call : Call) → refused (said_by m b call) ≡ true → left_by m b call ≡ b
+RefusalsChangeNothing =
+    (m : Measures) (b : Board) (call : Call) → refused (said_by m b call) ≡ true
+    → left_by m b call ≡ b

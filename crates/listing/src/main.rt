@@ -1,4 +1,5 @@
-// Lists the trace on standard input. The bytes are made by the library; here they are only read and written.
+// Lists the trace on standard input. The bytes are made by the library; here they are only read and
+// written.
 #![tactic(auto)]
 
 use parts::reading::read_all;

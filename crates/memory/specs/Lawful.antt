@@ -9,7 +9,9 @@ pub lawful_interleave : {a b : Mem} → Lawful a → Lawful b → Lawful (interl
 lawful_interleave {a} {b} la lb =
     record {
       bounded = min-le_right (2 * min a.count b.count) 1048576;
-      four = λ block. cond_both (even block) (a.words (block / 2)) (b.words (block / 2)) (λ ws. length ws ≡ 4) (λ h. la.four (block / 2)) (λ h. lb.four (block / 2));
+      four =
+          λ block. cond_both (even block) (a.words (block / 2)) (b.words (block / 2))
+          (λ ws. length ws ≡ 4) (λ h. la.four (block / 2)) (λ h. lb.four (block / 2));
     }
 
 pub lawful_screen : (dead : List (Option ℕ)) {m : Mem} → Lawful m → Lawful (screened dead m)

@@ -1,5 +1,5 @@
 -- What a memory means: how many blocks, which of them are live, and the four words of each.
-use Rattle.std.specs.Prelude.{◌≡◌, ℕ, ◌≤◌, Bool, cond, ◌&&◌, List, length, Ok, Err, Option, Result, ◌==◌, nat_lt}
+use Rattle.std.specs.Prelude.{◌≡◌, ℕ, ◌≤◌, Bool, if◌then◌else◌, ◌&&◌, List, length, Ok, Err, Option, Result, ◌==◌, nat_lt}
 use Rattle.memory.specs.declared.memory.Denied.{Denied}
 
 pub record Mem : Type 0 where
@@ -11,8 +11,8 @@ pub record Lawful (m : Mem) : Type 0 where
   pub bounded : m.count ≤ 1048576
   pub four : (block : ℕ) → length (m.words block) ≡ 4
 
--- what no call changes beside the meaning: the loans that a memory stands on, by the names under which the checker
--- follows them, and the dead lists
+-- what no call changes beside the meaning: the loans that a memory stands on, by the names under
+-- which the checker follows them, and the dead lists
 pub data Standing : Type 0 where
   loan : ℕ → Standing
   both : Standing → Standing → Standing
@@ -26,10 +26,10 @@ abbrev pub denied : Denied
 denied = record {}
 
 abbrev pub reading : Mem → ℕ → Result (List ℕ) Denied
-reading m block = cond (grants m block) (Ok (m.words block)) (Err denied)
+reading m block = if grants m block then Ok (m.words block) else Err denied
 
 abbrev pub granted : Mem → ℕ → Result (Unit {0}) Denied
-granted m block = cond (grants m block) (Ok tt) (Err denied)
+granted m block = if grants m block then Ok tt else Err denied
 
 -- a granted write replaces the words of its block and of no other
 abbrev pub written : Mem → ℕ → List ℕ → Mem
@@ -37,5 +37,5 @@ written m block words =
     record {
       count = m.count;
       live = m.live;
-      words = λ k. cond (grants m block && k == block) words (m.words k);
+      words = λ k. if grants m block && k == block then words else m.words k;
     }

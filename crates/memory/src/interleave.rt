@@ -1,4 +1,4 @@
-// Two memories as one: even blocks are the first's, odd ones the second's.
+// Two memories as one.
 ghost use Rattle.std.specs.Prelude.{◌≡◌};
 ghost use Rattle.memory.specs.Layers.{interleaved};
 ghost use Rattle.memory.specs.Lawful.{lawful_interleave};
@@ -6,8 +6,10 @@ ghost use Rattle.memory.specs.Meaning.Standing.{both};
 
 use crate::memory::{Denied, Memory};
 
+// Half of the most blocks that a memory has.
 const MOST_HALF: u32 = 524_288;
 
+/// Two memories as one: block k is block k / 2 of the first, or of the second where k is odd.
 #[derive(Drop)]
 pub struct Interleave<P, Q> {
     first: P,
@@ -15,6 +17,7 @@ pub struct Interleave<P, Q> {
 }
 
 impl<P: Memory, Q: Memory> Interleave<P, Q> {
+    /// The interleave of two memories: twice as many blocks as the smaller has, at most 1,048,576.
     pub fn new(first: P, second: Q) -> Interleave<P, Q>
         ensures first { result.first ≡ first }
         ensures second { result.second ≡ second }
@@ -23,7 +26,8 @@ impl<P: Memory, Q: Memory> Interleave<P, Q> {
     }
 }
 
-// `read` and `write` each choose the half: a helper would have to lend either of two types, once as & and once as &mut.
+// `read` and `write` each choose the half: a helper would have to lend either of two types, once as
+// & and once as &mut.
 impl<P: Memory, Q: Memory> Memory for Interleave<P, Q> {
     ghost model = { λ s. interleaved (P.Memory.model s.first) (Q.Memory.model s.second) };
 

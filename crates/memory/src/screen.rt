@@ -7,6 +7,7 @@ ghost use Rattle.memory.specs.Meaning.Standing.{behind};
 use crate::dead::DeadList;
 use crate::memory::{Denied, Memory};
 
+/// A memory over another in which the listed blocks are dead.
 #[derive(Drop)]
 pub struct Screen<M> {
     below: M,
@@ -14,6 +15,7 @@ pub struct Screen<M> {
 }
 
 impl<M: Memory> Screen<M> {
+    /// The memory `below`, with the blocks of the list dead.
     pub fn new(below: M, dead: DeadList) -> Screen<M>
         ensures below { result.below ≡ below }
         ensures dead { result.dead ≡ dead }

@@ -1,4 +1,4 @@
-// A memory over a lent table of words, all blocks live. A table of unfit length gives no blocks.
+// A memory over a lent table of words.
 ghost use Rattle.std.specs.Prelude.{◌≡◌, length, if◌then◌else◌, Ok, Err};
 ghost use Rattle.memory.specs.Meaning.{Standing};
 ghost use Rattle.memory.specs.Meaning.Standing.{loan};
@@ -7,8 +7,12 @@ ghost use Rattle.memory.specs.Words.{fit, table_of, lawful_table};
 use crate::memory::{Denied, Memory};
 use protocol::refusal::Refusal;
 
+// The most words of a table: 1,048,576 blocks.
 const MOST_WORDS: usize = 4_194_304;
 
+/// A memory over a lent table of 32-bit words, all blocks live: block b is the words 4b to 4b + 3.
+///
+/// A table of unfit length gives no blocks.
 #[derive(Drop)]
 pub struct WordTable<'a> {
     words: &'a mut [u32],
@@ -21,7 +25,9 @@ fn fits(length: usize) -> bool
     length % 4 == 0 && length <= MOST_WORDS
 }
 
-// Refuses a table of unfit length with 2.
+/// Tests a table of words.
+///
+/// Refuses with 2 a table whose length is not a multiple of 4 or is over 4,194,304.
 pub fn check_table(words: &[u32]) -> Result<(), Refusal>
     ensures { result ≡ (if fit (length words.now) then Ok tt else Err Refusal.TableLength) }
 {
@@ -32,6 +38,7 @@ pub fn check_table(words: &[u32]) -> Result<(), Refusal>
 }
 
 impl<'a> WordTable<'a> {
+    /// The memory over a table, whose words a write changes in place.
     pub fn new(words: &'a mut [u32]) -> WordTable<'a>
         ensures words { result.words.now ≡ words.old }
         ensures lender { result.words.ghost_name ≡ words.entry.ghost_name }

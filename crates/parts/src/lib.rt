@@ -1,4 +1,4 @@
-// What the programs share: how they read their input, and how the cases stand in it and in the output.
+// What the programs share: how they read input, and how cases stand in it and in the output.
 #![tactic(auto)]
 
 pub mod cases;

@@ -1,5 +1,5 @@
 -- What a command acts as, the word that it answers and the words that it leaves in its block.
-use Rattle.std.specs.Prelude.{ℕ, ◌%◌, Bool, cond, not, ◌&&◌, List, [], ◌∷◌, Some, None, Option, ◌==◌, slice_index, slice_set}
+use Rattle.std.specs.Prelude.{ℕ, ◌%◌, Bool, if◌then◌else◌, not, ◌&&◌, List, [], ◌∷◌, Some, None, Option, ◌==◌, slice_index, slice_set}
 use Rattle.protocol.specs.declared.state.State.{State}
 use Rattle.protocol.specs.declared.command.Command.{Command}
 use Rattle.protocol.specs.declared.command.Command.TheVariants.{R, W, DW, RI, RP, RB, LR, UW, U}
@@ -20,10 +20,11 @@ at_last address = offset address == 3
 abbrev pub acts_as : Command → ℕ → State → Bool → Action
 acts_as R address found elsewhere = as_r
 acts_as (W word) address found elsewhere = as_w
-acts_as (DW word) address found elsewhere = cond (at_start address) as_dw as_w
+acts_as (DW word) address found elsewhere = if at_start address then as_dw else as_w
 acts_as RI address found elsewhere = as_ri
 acts_as RP address found elsewhere = as_rp
-acts_as RB address found elsewhere = cond (at_last address) as_rp (cond (not (valid found) && elsewhere) as_ri as_r)
+acts_as RB address found elsewhere =
+    if at_last address then as_rp else if not (valid found) && elsewhere then as_ri else as_r
 acts_as LR address found elsewhere = as_lr
 acts_as (UW word) address found elsewhere = as_uw
 acts_as U address found elsewhere = as_u
@@ -56,7 +57,9 @@ word_answered U address words = 0
 abbrev pub words_left : Command → ℕ → List ℕ → List ℕ
 words_left R address words = words
 words_left (W word) address words = slice_set words (offset address) word
-words_left (DW word) address words = cond (at_start address) (word ∷ (0 ∷ (0 ∷ (0 ∷ [])))) (slice_set words (offset address) word)
+words_left (DW word) address words =
+    if at_start address then word ∷ (0 ∷ (0 ∷ (0 ∷ [])))
+    else slice_set words (offset address) word
 words_left RI address words = words
 words_left RP address words = words
 words_left RB address words = words

@@ -1,4 +1,4 @@
--- What an answer carries, done or waiting: a waiting one has word 0 and leaves the state that it found.
+-- What an answer carries, done or waiting: a waiting one has word 0 and leaves the state found.
 use Rattle.std.specs.Prelude.{ℕ}
 use Rattle.protocol.specs.declared.state.State.{State}
 use Rattle.protocol.specs.declared.answer.Answer.{Answer}

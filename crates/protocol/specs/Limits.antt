@@ -14,8 +14,8 @@ power_of_two n = count_ones n == 1
 
 abbrev pub low_costs : Costs → Bool
 low_costs c =
-    nat_le c.swap_in 1000 && nat_le c.transfer 1000 && nat_le c.invalidation 1000 && nat_le c.swap_out 1000
-    && nat_le c.lock_signal 1000
+    nat_le c.swap_in 1000 && nat_le c.transfer 1000 && nat_le c.invalidation 1000
+    && nat_le c.swap_out 1000 && nat_le c.lock_signal 1000
 
 pub record LowCosts (c : Costs) : Type 0 where
   pub in_low : c.swap_in ≤ 1000

@@ -1,5 +1,5 @@
 -- Cache lines. A line that becomes I has its numbers and words set to 0.
-use Rattle.std.specs.Prelude.{cond, [], replicate}
+use Rattle.std.specs.Prelude.{if◌then◌else◌, [], replicate}
 use Rattle.protocol.specs.declared.state.State.{State}
 use Rattle.protocol.specs.declared.state.State.TheVariants.{I}
 use Rattle.protocol.specs.declared.line.Line.{Line}
@@ -13,4 +13,6 @@ abbrev pub no_line : Line
 no_line = record { state = I; block = 0; words = [] }
 
 abbrev pub in_state : Line → State → Line
-in_state line state = cond (valid state) (record { state = state; block = line.block; words = line.words }) blank_line
+in_state line state =
+    if valid state then record { state = state; block = line.block; words = line.words }
+    else blank_line

@@ -1,22 +1,12 @@
 -- What is returned for each refusal: its number and its values.
-use Rattle.std.specs.Prelude.{ℕ, List, [], ◌∷◌}
-use Rattle.protocol.specs.declared.refusal.Direction.{Direction}
+use Rattle.std.specs.Prelude.{ℕ, Some, None}
 use Rattle.protocol.specs.declared.refusal.Refusal.{Refusal}
 use Rattle.protocol.specs.declared.refusal.Refusal.TheVariants.{Geometry, DeadList, TableLength, Processor, Address, Waiting, LockHeld, NoLockEntry, NoLock, CopyElsewhere, MachineCheck, Memory, Trailer, Record, Output}
-use Rattle.protocol.specs.declared.state.State.{State}
+use Rattle.protocol.specs.declared.refusal.Returned.{Returned}
 
-pub data Value : Type 0 where
-  found : State → Value
-  block : ℕ → Value
-  way : Direction → Value
-  index : ℕ → Value
-
-pub record Returned : Type 0 where
-  pub number : ℕ
-  pub values : List Value
-
+-- a number without values
 abbrev plain : ℕ → Returned
-plain n = record { number = n; values = [] }
+plain n = record { number = n; found = None; block = None; direction = None; index = None }
 
 abbrev pub returned : Refusal → Returned
 returned Geometry = plain 1
@@ -29,10 +19,10 @@ returned LockHeld = plain 6
 returned NoLockEntry = plain 7
 returned NoLock = plain 8
 returned CopyElsewhere = plain 9
-returned (MachineCheck s) = record { number = 10; values = found s ∷ [] }
-returned (Memory b d) = record { number = 11; values = block b ∷ (way d ∷ []) }
+returned (MachineCheck found) = record (plain 10) { found = Some found }
+returned (Memory block way) = record (plain 11) { block = Some block; direction = Some way }
 returned Trailer = plain 12
-returned (Record i) = record { number = 13; values = index i ∷ [] }
+returned (Record index) = record (plain 13) { index = Some index }
 returned Output = plain 14
 
 abbrev pub number_of : Refusal → ℕ

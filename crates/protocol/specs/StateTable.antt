@@ -1,5 +1,5 @@
--- The published state table and snoop table, by cases. One cell differs: W that finds EC leaves EM and not EC, since
--- the written word would be lost.
+-- The published state table and snoop table, by cases. One cell differs: W that finds EC leaves EM
+-- and not EC, since the written word would be lost.
 use Rattle.std.specs.Prelude.{ℕ, true, false, Some, None, Option}
 use Rattle.protocol.specs.declared.state.State.{State}
 use Rattle.protocol.specs.declared.state.State.TheVariants.{I, S, SM, EC, EM}
@@ -15,7 +15,8 @@ stays left = Some (record { bus = None; lk = false; from_cache = left; from_memo
 
 -- the block is asked for: the state left if a cache supplies it, and if memory does
 abbrev pub fetches : BusCommand → State → State → Option Effect
-fetches sent supplied loaded = Some (record { bus = Some sent; lk = false; from_cache = supplied; from_memory = loaded })
+fetches sent supplied loaded =
+    Some (record { bus = Some sent; lk = false; from_cache = supplied; from_memory = loaded })
 
 abbrev pub sends : BusCommand → State → Option Effect
 sends sent left = fetches sent left left
@@ -23,7 +24,7 @@ sends sent left = fetches sent left left
 -- LK goes before the bus command
 abbrev pub locking : Option Effect → Option Effect
 locking None = None
-locking (Some e) = Some (record { bus = e.bus; lk = true; from_cache = e.from_cache; from_memory = e.from_memory })
+locking (Some e) = Some (record e { lk = true })
 
 -- none: the command is a machine check
 abbrev pub cell_of : Action → State → Option Effect

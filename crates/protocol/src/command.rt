@@ -2,22 +2,32 @@
 ghost use Rattle.std.specs.Prelude.{◌≡◌};
 ghost use Rattle.protocol.specs.Acting.{written_by};
 
-// A command, with the word that it writes.
+/// A processor's command, with the word that it writes where it writes one.
 #[derive(Clone, Copy)]
 pub enum Command {
+    /// Read.
     R,
+    /// Write.
     W(u32),
+    /// Write; at a block's start also the block's other three words, which become 0.
     DW(u32),
+    /// Read and invalidate: no other cache keeps the block.
     RI,
+    /// Read and purge: no cache keeps the block, and its words are not written back.
     RP,
+    /// Read: as RP on a block's last word, elsewhere as RI where only other caches have the block,
+    /// else as R.
     RB,
+    /// Lock and read.
     LR,
+    /// Write and unlock.
     UW(u32),
+    /// Unlock.
     U,
 }
 
 impl Command {
-    // The word that the command writes, if it writes one.
+    /// The word that the command writes, if it writes one: W, DW and UW do.
     pub fn written(self) -> Option<u32>
         ensures { result ≡ written_by self }
     {
@@ -28,7 +38,7 @@ impl Command {
     }
 }
 
-// What a command acts as. In this order they are the rows of the state table.
+/// What a command acts as. In this order they are the rows of the state table.
 #[derive(Clone, Copy, PartialEq, Eq)]
 pub enum Action {
     R,
@@ -41,18 +51,23 @@ pub enum Action {
     U,
 }
 
-// In this order they are the rows of the snoop table.
+/// What is sent on the bus to the other caches. In this order they are the rows of the snoop table.
 #[derive(Clone, Copy, PartialEq, Eq)]
 pub enum BusCommand {
+    /// Fetch.
     F,
+    /// Fetch and invalidate.
     FI,
+    /// Invalidate.
     I,
 }
 
-// Who asks for what, and where.
+/// A command, who gives it and where.
 #[derive(Clone, Copy)]
 pub struct Request {
+    /// The processor's number, from 0.
     pub processor: u8,
     pub command: Command,
+    /// The word address.
     pub address: u32,
 }

@@ -1,9 +1,10 @@
-// One directory for both tables: the first entry of a window that is in use and whose key lies from a low to a high number.
+// One directory for both tables: it finds the first entry of a window that is in use and whose key
+// lies from a low to a high number.
 ghost use Rattle.std.specs.Prelude.{◌≡◌, ℕ, ◌+◌, ◌*◌, ◌/◌, ◌<◌, ◌≤◌, Bool, ◌&&◌, length, nat_le, nat_lt};
 ghost use Rattle.std.specs.List.{position};
 ghost use Rattle.protocol.specs.Finding.{lies_in, unused, first_in, window_of, Within};
 
-// The keys that are looked for, both ends included.
+/// The keys that are looked for, from `low` to `high`, both included.
 #[derive(Clone, Copy)]
 pub struct Keys {
     pub low: u32,
@@ -11,6 +12,7 @@ pub struct Keys {
 }
 
 impl Keys {
+    /// One key alone.
     pub fn only(key: u32) -> Keys
         ensures { result ≡ record { low = key; high = key } }
     {
@@ -20,7 +22,7 @@ impl Keys {
         }
     }
 
-    // The addresses of the block that has this one.
+    /// The four word addresses of the block that has this one.
     pub fn of_block_at(address: u32) -> Keys
         ensures low { result.low ≡ 4 * (address / 4) }
         ensures high { result.high ≡ 4 * (address / 4) + 3 }
@@ -29,6 +31,7 @@ impl Keys {
         Keys { low, high: low + 3 }
     }
 
+    /// Whether the key is one of these.
     pub fn contains(self, key: u32) -> bool
         ensures { result ≡ (nat_le self.low key && nat_le key self.high) }
     {
@@ -36,7 +39,7 @@ impl Keys {
     }
 }
 
-// The places of a table from `from` on, as many as `count`.
+/// The places of a table from `from` on, as many as `count`.
 #[derive(Clone, Copy)]
 pub struct Window {
     pub from: usize,
@@ -44,6 +47,7 @@ pub struct Window {
 }
 
 impl Window {
+    /// Whether the place is one of these.
     pub fn contains(self, place: usize) -> bool
         ensures { result ≡ (nat_le self.from place && nat_lt place (self.from + self.count)) }
     {
@@ -51,17 +55,23 @@ impl Window {
     }
 }
 
+/// An entry of a table: a cache line, or an entry of the lock directory.
 pub trait Entry {
+    /// Whether an entry is in use.
     ghost used: { Self → Bool };
 
+    /// An entry's key: a line's block number, a lock entry's word address.
     ghost label: { Self → ℕ };
 
+    /// Whether the entry is in use.
     fn in_use(&self) -> bool
         ensures { result ≡ used self.now };
 
+    /// The entry's key.
     fn key(&self) -> u32
         ensures { result ≡ label self.now };
 
+    /// Whether the entry is in use and has one of these keys.
     fn lies_in(&self, keys: Keys) -> bool
         ensures { result ≡ lies_in used label keys.low keys.high self.now }
     {
@@ -81,6 +91,7 @@ fn first_unused<E: Entry>(entries: &[E]) -> Option<usize>
     entries.iter().position(|e| !e.in_use())
 }
 
+/// A table that is searched by window.
 #[derive(Drop)]
 pub struct Directory<'a, E> {
     entries: &'a [E],
@@ -88,6 +99,7 @@ pub struct Directory<'a, E> {
 
 #[tactic(auto, using(crate::proofs::Finding::none_found, crate::proofs::Finding::first_found))]
 impl<'a, E: Entry> Directory<'a, E> {
+    /// The directory over a lent table.
     pub fn new(entries: &'a [E]) -> Directory<'a, E>
         ensures { result.entries.now ≡ entries.now }
     {
@@ -102,17 +114,21 @@ impl<'a, E: Entry> Directory<'a, E> {
         &behind[..window.count.min(behind.len())]
     }
 
+    /// The place, in the whole table, of the first entry of the window that is in use and has one
+    /// of these keys.
     pub fn find(self, window: Window, keys: Keys) -> Option<usize>
-        ensures value { result ≡ first_in (lies_in E.used E.label keys.low keys.high) window.from (window_of window.from window.count self.entry.entries.now) }
+        ensures value { result ≡ first_in (lies_in E.used E.label keys.low keys.high) window.from
+            (window_of window.from window.count self.entry.entries.now) }
         ensures within { Within window.from window.count self.entry.entries.now result }
     {
         let place = first_between(self.entries_in(window), keys)?;
         Some(window.from + place)
     }
 
-    // The first entry of the window that is not in use.
+    /// The place, in the whole table, of the first entry of the window that is not in use.
     pub fn free(self, window: Window) -> Option<usize>
-        ensures value { result ≡ first_in (unused E.used) window.from (window_of window.from window.count self.entry.entries.now) }
+        ensures value { result ≡ first_in (unused E.used) window.from
+            (window_of window.from window.count self.entry.entries.now) }
         ensures within { Within window.from window.count self.entry.entries.now result }
     {
         let place = first_unused(self.entries_in(window))?;

@@ -1,10 +1,11 @@
-// Measures within their limits. The limits are the struct's invariant, so that no call checks them again.
+// The geometry of a cluster.
 ghost use Rattle.std.specs.Prelude.{◌≡◌, ◌≤◌, count_ones};
 
 use crate::measures::Measures;
 
 mod places;
 
+/// Measures within their limits, which are the struct's invariant: no call checks them again.
 #[derive(Clone, Copy)]
 pub struct Geometry {
     measures: Measures,
@@ -16,6 +17,7 @@ pub struct Geometry {
     ghost few_ways: { measures.ways ≤ 4 },
     ghost some_entries: { 1 ≤ measures.lock_entries },
     ghost few_entries: { measures.lock_entries ≤ 4 },
-    ghost low_costs: { (measures.costs.swap_in ≤ 1000) × (measures.costs.transfer ≤ 1000) × (measures.costs.invalidation ≤ 1000)
-        × (measures.costs.swap_out ≤ 1000) × (measures.costs.lock_signal ≤ 1000) },
+    ghost low_costs: { (measures.costs.swap_in ≤ 1000) × (measures.costs.transfer ≤ 1000)
+        × (measures.costs.invalidation ≤ 1000) × (measures.costs.swap_out ≤ 1000)
+        × (measures.costs.lock_signal ≤ 1000) },
 }

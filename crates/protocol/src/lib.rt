@@ -1,4 +1,4 @@
-// The published protocol: states, commands, geometry, cache lines, lock entries, the directory and the state table.
+// The published protocol: commands, states, geometry, lines, lock entries, directory, state table.
 #![tactic(auto)]
 
 pub mod acting;

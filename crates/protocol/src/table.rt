@@ -5,19 +5,23 @@ ghost use Rattle.protocol.specs.StateTable.{cell_of, snooped};
 use crate::command::{Action, BusCommand};
 use crate::state::State;
 
-// What is sent, and the state left when another cache supplies the block and when memory does.
+/// A cell of the state table that is no machine check: what is sent, and the state left.
 #[derive(Clone, Copy)]
 pub struct Effect {
+    /// The bus command that is sent, if any.
     pub bus: Option<BusCommand>,
+    /// Whether the lock request LK is sent.
     pub lk: bool,
+    /// The state left when another cache supplies the block.
     pub from_cache: State,
+    /// The state left when memory supplies the block, or nobody.
     pub from_memory: State,
 }
 
-// Nothing where the command is a machine check.
+/// A cell of the state table: none where the command is a machine check.
 pub type Cell = Option<Effect>;
 
-// Written out one by one: the check answers that a call in a constant's value is not supported, and the table is a constant.
+// Written out one by one: the checker supports no call in a constant's value.
 const MC: Cell = None;
 
 const EM: Cell = Some(Effect {
@@ -104,6 +108,7 @@ const LK_FI_EM_EC: Cell = Some(Effect {
     from_memory: State::EC,
 });
 
+// A row for each `Action`, in its order; columns EM, EC, SM, S, I.
 const TABLE: [[Cell; 5]; 8] = [
     [EM, EC, SM, S, F_S_EC],
     [EM, EM, I_EM, I_EM, FI_EM],
@@ -115,20 +120,22 @@ const TABLE: [[Cell; 5]; 8] = [
     [EM, EM, MC, MC, I],
 ];
 
-// What a copy in another cache becomes: a row each for F, FI and I.
+// What a copy in another cache becomes: a row for each bus command, F, FI and I; columns EM, EC,
+// SM, S, I.
 const SNOOP: [[State; 5]; 3] = [
     [State::SM, State::S, State::SM, State::S, State::I],
     [State::I, State::I, State::I, State::I, State::I],
     [State::I, State::I, State::I, State::I, State::I],
 ];
 
+/// The cell of the state table for what a command acts as and the state found.
 pub fn look_up(action: Action, found: State) -> Cell
     ensures { result ≡ cell_of action found }
 {
     TABLE[action as usize][found as usize]
 }
 
-// The state of another cache's copy after a bus command.
+/// The state of another cache's copy after a bus command.
 pub fn snoop(bus: BusCommand, copy: State) -> State
     ensures { result ≡ snooped bus copy }
 {

@@ -12,7 +12,8 @@ use Rattle.run.specs.Running.{Running, how_many, due, stepped, shown, left, to_g
 use Rattle.run.proofs.Falls.{idle_most}
 
 module _ (m : Measures) (records : List Record) where
-  pub going_start : (s : Running) → s.steps + to_go m records s ≤ 999999999 → Going m records s s (to_go m records s)
+  pub going_start : (s : Running) → s.steps + to_go m records s ≤ 999999999
+      → Going m records s s (to_go m records s)
   going_start s few = record { enough = omega arith; same_end = refl; few = few }
 
   -- one step less is enough behind a step
@@ -22,10 +23,13 @@ module _ (m : Measures) (records : List Record) where
     pub going : Going m records first s' rest
     pub head : steps_from m records fuel s ≡ step ∷ steps_from m records rest s'
 
-  one_step : (first s s' : Running) (fuel i : ℕ) (step : Step) → due m records s ≡ Some i → step ≡ shown m records s i → s' ≡ stepped m records s i
-      → Going m records first s fuel → to_go m records s' < to_go m records s → Further first s s' fuel step
+  one_step : (first s s' : Running) (fuel i : ℕ) (step : Step) → due m records s ≡ Some i
+      → step ≡ shown m records s i → s' ≡ stepped m records s i
+      → Going m records first s fuel → to_go m records s' < to_go m records s
+      → Further first s s' fuel step
   unfolding run_from steps_from stepped
-  one_step first s s' zero i step is-due value after here less = let enough = here.enough in absurd (omega (arith, enough, less))
+  one_step first s s' zero i step is-due value after here less =
+      let enough = here.enough in absurd (omega (arith, enough, less))
   one_step first s s' (suc n) i step is-due value after here less =
       let enough = here.enough in
       let few = here.few in
@@ -35,22 +39,27 @@ module _ (m : Measures) (records : List Record) where
         one_less = refl;
         going = record {
           enough = omega (arith, enough, less);
-          same_end = ap (run_from m records n) after ∙ ap (λ o. when_some o (λ j. run_from m records n (stepped m records s j)) s) (sym is-due) ∙ here.same_end;
+          same_end = ap (run_from m records n) after
+              ∙ ap (λ o. when_some o (λ j. run_from m records n (stepped m records s j)) s) (sym is-due)
+              ∙ here.same_end;
           few = omega (arith, few, one, less);
         };
-        head = ap (λ o. when_some o (λ j. shown m records s j ∷ steps_from m records n (stepped m records s j)) []) is-due
+        head = ap (λ o. when_some o
+            (λ j. shown m records s j ∷ steps_from m records n (stepped m records s j)) []) is-due
             ∙ (λ k. sym value k ∷ steps_from m records n (sym after k));
       }
 
   module _ (first s s' : Running) (fuel : ℕ) (here : Going m records first s fuel) where
-    by_due : (o : Option ℕ) (step : Step) → due m records s ≡ o → Some step ≡ option_map (shown m records s) o → s' ≡ when_some o (stepped m records s) s
+    by_due : (o : Option ℕ) (step : Step) → due m records s ≡ o
+        → Some step ≡ option_map (shown m records s) o → s' ≡ when_some o (stepped m records s) s
         → to_go m records s' < to_go m records s → Further first s s' fuel step
     by_due None step e value after less = absurd (cc)
     by_due (Some i) step e value after less =
         one_step first s s' fuel i step e (ap (λ o. when_some o (λ x. x) step) value) after here less
 
     going_on : (step : Step) → Some step ≡ option_map (shown m records s) (due m records s)
-        → s' ≡ when_some (due m records s) (stepped m records s) s → to_go m records s' < to_go m records s
+        → s' ≡ when_some (due m records s) (stepped m records s) s
+        → to_go m records s' < to_go m records s
         → Further first s s' fuel step
     going_on step value after less = by_due (due m records s) step refl value after less
 
@@ -76,7 +85,8 @@ module _ (m : Measures) (records : List Record) where
     no_more_steps (suc n) e = rw e refl
 
 -- what a call of the step tells of one step, by a cluster and a trace that are still those of the start
-module _ (g g' : Geometry) (t t' : Trace) (same : g' ≡ g) (alike : t' ≡ t) (first s s' : Running) (fuel : ℕ)
+module _ (g g' : Geometry) (t t' : Trace) (same : g' ≡ g) (alike : t' ≡ t) (first s s' : Running)
+    (fuel : ℕ)
     (here : Going g.measures (records_of t.records.now) first s fuel) where
   abbrev m : Measures
   m = g.measures
@@ -85,20 +95,30 @@ module _ (g g' : Geometry) (t t' : Trace) (same : g' ≡ g) (alike : t' ≡ t) (
   recs = records_of t.records.now
 
   abbrev shows : Option Step → Geometry → Trace → Type 0
-  shows step h u = step ≡ option_map (shown h.measures (records_of u.records.now) s) (due h.measures (records_of u.records.now) s)
+  shows step h u =
+      step ≡ option_map (shown h.measures (records_of u.records.now) s)
+      (due h.measures (records_of u.records.now) s)
 
   abbrev leaves : Geometry → Trace → Type 0
-  leaves h u = s' ≡ when_some (due h.measures (records_of u.records.now) s) (stepped h.measures (records_of u.records.now) s) s
+  leaves h u = s' ≡ when_some (due h.measures (records_of u.records.now) s)
+      (stepped h.measures (records_of u.records.now) s) s
 
   abbrev falls : Geometry → Trace → Type 0
-  falls h u = to_go h.measures (records_of u.records.now) s' < to_go h.measures (records_of u.records.now) s
+  falls h u =
+      to_go h.measures (records_of u.records.now)
+      (when_some (due h.measures (records_of u.records.now) s)
+      (stepped h.measures (records_of u.records.now) s) s)
+      < to_go h.measures (records_of u.records.now) s
 
   moved : (P : Geometry → Trace → Type 0) → P g' t' → P g t
   moved P told = subst (λ h. P h t) same (subst (P g') alike told)
 
-  pub goes_on : (step : Step) → shows (Some step) g' t' → leaves g' t' → falls g' t' → Further m recs first s s' fuel step
+  pub goes_on : (step : Step) → shows (Some step) g' t' → leaves g' t' → falls g' t'
+      → Further m recs first s s' fuel step
   goes_on step value told less =
-      going_on m recs first s s' fuel here step (moved (shows (Some step)) value) (moved leaves told) (moved falls less)
+      let after = moved leaves told in
+      going_on m recs first s s' fuel here step (moved (shows (Some step)) value) after
+      (subst (λ x. to_go m recs x < to_go m recs s) (sym after) (moved falls less))
 
   pub record Stopped : Type 0 where
     pub none : due m recs s' ≡ None
@@ -116,10 +136,12 @@ module _ (g g' : Geometry) (t t' : Trace) (same : g' ≡ g) (alike : t' ≡ t) (
       }
 
   -- the same, where it is only asked whether there was a step
-  pub on_some : (r : Option Step) → is_some r ≡ true → shows r g' t' → leaves g' t' → OnSome r (falls g' t')
+  pub on_some : (r : Option Step) → is_some r ≡ true → shows r g' t' → leaves g' t'
+      → OnSome r (falls g' t')
       → (rest : ℕ) × Going m recs first s' rest
   on_some None e value told less = absurd (cc)
-  on_some (Some step) e value told less = let further = goes_on step value told less in (further.rest, further.going)
+  on_some (Some step) e value told less =
+      let further = goes_on step value told less in (further.rest, further.going)
 
   pub on_none : (r : Option Step) → is_some r ≡ false → shows r g' t' → leaves g' t' → Stopped
   on_none None e value told = stops value told
@@ -134,10 +156,12 @@ some_many test (suc n) from = let rest = some_many test n (from + 1) in by_one (
     by_one false h = omega (arith, h)
 
 -- a run starts with few steps to go
-pub start_few : (m : Measures) (records : List Record) (s : Running) → m.processors ≤ 8 → length records ≤ 1048576 → s.steps ≡ 0
+pub start_few : (m : Measures) (records : List Record) (s : Running) → m.processors ≤ 8
+    → length records ≤ 1048576 → s.steps ≡ 0
     → s.steps + to_go m records s ≤ 999999999
 start_few m records s eight few none =
     let some = some_many s.unfinished (length records) 0 in
-    let idle-few = idle_most m.processors s.processors in
-    let product : m.processors * left m records s ≤ 8 * left m records s = mul-le-mul_right (left m records s) eight in
+    let idle-few = idle_most m.processors s.board.processors in
+    let product : m.processors * left m records s ≤ 8 * left m records s =
+    mul-le-mul_right (left m records s) eight in
     omega (arith, some, idle-few, product, none)

@@ -7,3 +7,4 @@ pub mod Ends
 pub mod Runs
 pub mod Commands
 pub mod Laws
+pub mod Listings

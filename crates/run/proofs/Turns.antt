@@ -3,12 +3,9 @@ use Rattle.std.proofs.Common.{◌≡◌, ℕ, ◌+◌, ◌-◌, ◌*◌, ◌<◌
 use Rattle.std.proofs.lemmas.List.{get_or-set_same, get_or-set_other}
 use Rattle.std.proofs.lemmas.Bool.Decides.{eqb_tells, leb_tells, nat_tests}
 use Rattle.protocol.specs.declared.measures.Measures.{Measures}
-use Rattle.protocol.specs.declared.line.Line.{Line}
-use Rattle.protocol.specs.declared.lock.LockEntry.{LockEntry}
 use Rattle.protocol.specs.Finding.{lowest_from}
 use Rattle.protocol.proofs.Finding.{Lowest, lowest_tells, lowest_is, lowest_none}
-use Rattle.memory.specs.Meaning.{Mem}
-use Rattle.cluster.specs.declared.cluster.Processor.{Processor}
+use Rattle.cluster.specs.Board.{Board}
 use Rattle.cluster.specs.Waiting.{awaited_in}
 use Rattle.trace.specs.declared.record.Record.{Record}
 use Rattle.trace.specs.declared.trace.Trace.{Trace}
@@ -31,7 +28,8 @@ pub record NextAt (bytes : List ℕ) (p from x : ℕ) : Type 0 where
   own : x < records_in bytes → is_of p bytes x ≡ true
   pub least : (j : ℕ) → from ≤ j → j < records_in bytes → is_of p bytes j ≡ true → x ≤ j
 
-by_lowest : (bytes : List ℕ) (p from : ℕ) (o : Option ℕ) → from ≤ records_in bytes → Lowest (is_of p bytes) from (records_in bytes - from) o
+by_lowest : (bytes : List ℕ) (p from : ℕ) (o : Option ℕ) → from ≤ records_in bytes
+    → Lowest (is_of p bytes) from (records_in bytes - from) o
     → NextAt bytes p from (unwrap_or o (records_in bytes))
 by_lowest bytes p from None low h = record {
   later = low;
@@ -49,18 +47,22 @@ by_lowest bytes p from (Some x) low h = record {
   ];
 }
 
-pub next_at : (bytes : List ℕ) (p from : ℕ) → from ≤ records_in bytes → NextAt bytes p from (next_of p from bytes)
+pub next_at : (bytes : List ℕ) (p from : ℕ) → from ≤ records_in bytes
+    → NextAt bytes p from (next_of p from bytes)
 next_at bytes p from low =
-    by_lowest bytes p from (lowest_from (is_of p bytes) from (records_in bytes - from)) low (lowest_tells (is_of p bytes) (records_in bytes - from) from)
+    by_lowest bytes p from (lowest_from (is_of p bytes) from (records_in bytes - from)) low
+    (lowest_tells (is_of p bytes) (records_in bytes - from) from)
 
 -- a record that sixteen bytes give is one of the trace
-present : (bytes : List ℕ) (i : ℕ) (r : Record) → Some r ≡ decoded (take 16 (drop (i * 16) bytes)) → i < records_in bytes
+present : (bytes : List ℕ) (i : ℕ) (r : Record) → Some r ≡ decoded (take 16 (drop (i * 16) bytes))
+    → i < records_in bytes
 present bytes i r e = elim (leb_tells (records_in bytes) i) [
   | inl beyond ↦ absurd (none-some r (sym (e ∙ too_short _ (past_records bytes i beyond.1))))
   | inr here ↦ here.1
 ]
 
-module _ (processors : ℕ) (bytes : List ℕ) (sound : wrong_from processors 0 0 (records_in bytes) bytes ≡ None) (few : processors ≤ 8) where
+module _ (processors : ℕ) (bytes : List ℕ)
+    (sound : wrong_from processors 0 0 (records_in bytes) bytes ≡ None) (few : processors ≤ 8) where
   abbrev recs : List Record
   recs = records_of bytes
 
@@ -92,12 +94,14 @@ module _ (processors : ℕ) (bytes : List ℕ) (sound : wrong_from processors 0 
       at i true e =
           let below : i < length recs = grind (arith, nat_tests) in
           let inside : i < records_in bytes = omega (arith, below, many) in
-          let first = (next_at bytes (who i) 0 (omega arith)).least i (omega arith) inside (is_own i inside) in
+          let first = (next_at bytes (who i) 0 (omega arith)).least i (omega arith) inside
+          (is_own i inside) in
           let start = starts (who i) (low i inside) in
           let passed : leb (get_or next (who i) 0) i ≡ true = grind (arith, nat_tests) in
           rw (e, passed) refl
 
-  pub settled_start : (next : List ℕ) → ((p : ℕ) → p < 8 → get_or next p 0 ≡ next_of p 0 bytes) → Settled bytes next
+  pub settled_start : (next : List ℕ) → ((p : ℕ) → p < 8 → get_or next p 0 ≡ next_of p 0 bytes)
+      → Settled bytes next
   settled_start next starts p h less =
       let start = starts p h in
       ap (is_of p bytes) start ∙ (next_at bytes p 0 (omega arith)).own (omega (arith, start, less))
@@ -109,13 +113,14 @@ module _ (processors : ℕ) (bytes : List ℕ) (sound : wrong_from processors 0 
 
     module _ (m : Measures) (s : Running) (same : s.unfinished ≡ unfinished_by recs next) where
       abbrev waits : ℕ → Option ℕ
-      waits = awaited_in m s.processors
+      waits = awaited_in m s.board.processors
 
       abbrev tries : ℕ → Bool
       tries j = unfinished_by recs next j && not (is_some (waits (who j)))
 
       -- before the earliest index of a processor that does not wait no record may step
-      too_early : (i j : ℕ) → i ≤ records_in bytes → j < i → ((q : ℕ) → q < 8 → waits q ≡ None → i ≤ get_or next q 0) → tries j ≡ false
+      too_early : (i j : ℕ) → i ≤ records_in bytes → j < i
+          → ((q : ℕ) → q < 8 → waits q ≡ None → i ≤ get_or next q 0) → tries j ≡ false
       too_early i j most h least = at (waits (who j)) refl
         where
           at : (w : Option ℕ) → waits (who j) ≡ w → tries j ≡ false
@@ -132,7 +137,8 @@ module _ (processors : ℕ) (bytes : List ℕ) (sound : wrong_from processors 0 
           rw same (lowest_none tries (length recs) 0
           (λ j a b. too_early (records_in bytes) j (omega arith) (omega (arith, b, many)) h))
 
-      pub due_some : (p : ℕ) → Earliest waits next (records_in bytes) (Some p) → due m recs s ≡ Some (get_or next p 0)
+      pub due_some : (p : ℕ) → Earliest waits next (records_in bytes) (Some p)
+          → due m recs s ≡ Some (get_or next p 0)
       unfolding due
       due_some p h =
           let i = get_or next p 0 in
@@ -140,7 +146,8 @@ module _ (processors : ℕ) (bytes : List ℕ) (sound : wrong_from processors 0 
           let inside : ltb i (length recs) ≡ true = let less = h.2 in grind (arith, nat_tests, many) in
           let here : leb (get_or next (who i) 0) i ≡ true = rw mine (grind (arith, nat_tests)) in
           let idle : waits (who i) ≡ None = ap waits mine ∙ h.1 in
-          rw same (lowest_is tries (length recs) 0 i (omega arith) (let less = h.2 in omega (arith, less, many)) (rw (inside, here, idle) refl)
+          rw same (lowest_is tries (length recs) 0 i (omega arith)
+          (let less = h.2 in omega (arith, less, many)) (rw (inside, here, idle) refl)
           (λ j a b. too_early i j (let less = h.2 in omega (arith, less)) b h.3))
 
     -- the record at a processor's index is finished
@@ -160,11 +167,13 @@ module _ (processors : ℕ) (bytes : List ℕ) (sound : wrong_from processors 0 
       at_other : (q : ℕ) → (q ≡ p → ⊥) → get_or after q 0 ≡ get_or next q 0
       at_other q other = get_or-set_other next p q (next_of p (i + 1) bytes) 0 other
 
-      past : (j : ℕ) → j < records_in bytes → leb (get_or after (who j) 0) j ≡ (leb (get_or next (who j) 0) j && not (eqb j i))
+      past : (j : ℕ) → j < records_in bytes
+          → leb (get_or after (who j) 0) j ≡ (leb (get_or next (who j) 0) j && not (eqb j i))
       past j inside = elim (eqb_tells (who j) p) [
         | inl mine ↦
             let here : get_or next (who j) 0 ≡ i = ap (λ q. get_or next q 0) mine.1 in
-            let there : get_or after (who j) 0 ≡ next_of p (i + 1) bytes = ap (λ q. get_or after q 0) mine.1 ∙ at_own in
+            let there : get_or after (who j) 0 ≡ next_of p (i + 1) bytes =
+            ap (λ q. get_or after q 0) mine.1 ∙ at_own in
             let is : is_of p bytes j ≡ true = of p j inside ∙ mine.0 in
             let later = further.later in
             let least : i + 1 ≤ j → next_of p (i + 1) bytes ≤ j = λ a. further.least j a inside is in
@@ -177,7 +186,8 @@ module _ (processors : ℕ) (bytes : List ℕ) (sound : wrong_from processors 0 
             rw (at_other (who j) other.1, not_same) (grind (arith, nat_tests))
       ]
         where
-          by_place : (j : ℕ) → (i + 1 ≤ j → next_of p (i + 1) bytes ≤ j) → leb (next_of p (i + 1) bytes) j ≡ (leb i j && not (eqb j i))
+          by_place : (j : ℕ) → (i + 1 ≤ j → next_of p (i + 1) bytes ≤ j)
+              → leb (next_of p (i + 1) bytes) j ≡ (leb i j && not (eqb j i))
           by_place j least = elim (leb_tells (i + 1) j) [
             | inl more ↦ let low = least more.1 in grind (arith, nat_tests)
             | inr less ↦ let later = further.later in grind (arith, nat_tests)
@@ -186,7 +196,8 @@ module _ (processors : ℕ) (bytes : List ℕ) (sound : wrong_from processors 0 
       pub finished : unfinished_by recs after ≡ (λ j. unfinished_by recs next j && not (true && eqb j i))
       finished = λ k j. at j (ltb j (length recs)) refl k
         where
-          at : (j : ℕ) (b : Bool) → ltb j (length recs) ≡ b → unfinished_by recs after j ≡ (unfinished_by recs next j && not (true && eqb j i))
+          at : (j : ℕ) (b : Bool) → ltb j (length recs) ≡ b
+              → unfinished_by recs after j ≡ (unfinished_by recs next j && not (true && eqb j i))
           at j false e = rw e refl
           at j true e =
               let below : j < length recs = grind (arith, nat_tests) in
@@ -195,14 +206,17 @@ module _ (processors : ℕ) (bytes : List ℕ) (sound : wrong_from processors 0 
       settled_after : Settled bytes after
       settled_after q h less = elim (eqb_tells q p) [
         | inl mine ↦
-            let there : get_or after q 0 ≡ next_of p (i + 1) bytes = ap (λ x. get_or after x 0) mine.1 ∙ at_own in
+            let there : get_or after q 0 ≡ next_of p (i + 1) bytes =
+            ap (λ x. get_or after x 0) mine.1 ∙ at_own in
             rw (there, mine.1) (further.own (omega (arith, less, there)))
         | inr other ↦
             let there = at_other q other.1 in
             ap (is_of q bytes) there ∙ settled q h (omega (arith, less, there))
       ]
 
-      pub unfinished_after : (b : Bool) → unfinished_by recs (cond b after next) ≡ (λ j. unfinished_by recs next j && not (b && eqb j i))
+      pub unfinished_after : (b : Bool)
+          → unfinished_by recs (cond b after next)
+          ≡ (λ j. unfinished_by recs next j && not (b && eqb j i))
       unfinished_after true = finished
       unfinished_after false = λ k j. unchanged (unfinished_by recs next j) k
         where
@@ -215,8 +229,11 @@ module _ (processors : ℕ) (bytes : List ℕ) (sound : wrong_from processors 0 
       settled_next false = settled
 
   -- the record that sixteen bytes give
-  pub request_same : (i : ℕ) (r : Record) → i < records_in bytes → Some r ≡ decoded (take 16 (drop (i * 16) bytes)) → r.request ≡ request_at recs i
-  request_same i r h e = ap (λ o. when_some o (λ x. x.request) r.request) (e ∙ (known processors no_record bytes sound i h).given)
+  pub request_same : (i : ℕ) (r : Record) → i < records_in bytes
+      → Some r ≡ decoded (take 16 (drop (i * 16) bytes)) → r.request ≡ request_at recs i
+  request_same i r h e =
+      ap (λ o. when_some o (λ x. x.request) r.request)
+      (e ∙ (known processors no_record bytes sound i h).given)
 
   pub record_there : (i : ℕ) (r : Record) → Some r ≡ decoded (take 16 (drop (i * 16) bytes))
       → (i < records_in bytes) × (r.request ≡ request_at recs i)
@@ -229,7 +246,13 @@ pub few_records : (t : Trace) → length (records_of t.records.now) ≤ 1048576
 few_records t = omega (arith, t.few, many t.processors t.records.now t.sound t.served.1)
 
 -- what a run has come to is what its rule says of its records
-pub summed : (m : Measures) (run : Run) (rs : List Record) (ps : List Processor) (lines : List Line) (locks : List LockEntry) (mem : Mem)
-    → records_for run ≡ rs → summary_by run ≡ summary_of m rs (state_of run ps lines locks mem)
-summed m run rs ps lines locks mem alike =
-    λ k. record { steps = run.steps; cycles = run.cycles; left = how_many (unfinished_by (records_for run) run.next) 0 (length (alike k)) }
+pub summed : (m : Measures) (run : Run) (rs : List Record) (b : Board)
+    → records_for run ≡ rs → summary_by run ≡ summary_of m rs (state_of run b)
+summed m run rs b alike =
+    λ k. record {
+      steps =
+          run.steps;
+      cycles =
+          run.cycles;
+      left = how_many (unfinished_by (records_for run) run.next) 0 (length (alike k));
+    }

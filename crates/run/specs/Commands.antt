@@ -1,20 +1,17 @@
 -- A run is a list of commands, issued one after another.
 use Rattle.std.specs.Prelude.{◌≡◌, List, [], map, Ok, Err, Result}
-use Rattle.protocol.specs.declared.line.Line.{Line}
-use Rattle.protocol.specs.declared.lock.LockEntry.{LockEntry}
 use Rattle.protocol.specs.declared.measures.Measures.{Measures}
 use Rattle.protocol.specs.declared.refusal.Refusal.{Refusal}
-use Rattle.memory.specs.Meaning.{Mem}
-use Rattle.cluster.specs.declared.cluster.Processor.{Processor}
 use Rattle.law.specs.Accounts.{left_along, said_along}
-use Rattle.law.specs.Calls.{Call, command, answered, Board}
+use Rattle.cluster.specs.Board.{Board}
+use Rattle.law.specs.Calls.{Call, command, answered}
 use Rattle.trace.specs.Traces.{Content}
 use Rattle.text.specs.declared.step.Step.{Step}
 use Rattle.run.specs.Running.{started, steps_of}
 
--- the steps of a trace's run from what a cluster, its tables and memory have; none if the trace is refused
+-- the steps of a trace's run from a board; none if the trace is refused
 abbrev pub steps_on : Measures → Board → Result Content Refusal → List Step
-steps_on m b (Ok trace) = steps_of m trace.records (started trace.records b.processors b.lines b.locks b.memory)
+steps_on m b (Ok trace) = steps_of m trace.records (started trace.records b)
 steps_on m b (Err refusal) = []
 
 -- the command that each step issues

@@ -5,4 +5,5 @@ pub mod Settled
 pub mod Progress
 pub mod Kept
 pub mod Running
+pub mod Watching
 pub mod Listing

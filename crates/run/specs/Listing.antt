@@ -1,12 +1,11 @@
 -- The listing of a trace, byte for byte.
-use Rattle.std.specs.Prelude.{ℕ, cond, List, [], ◌∷◌, ◌++◌, length, replicate, Ok, Err, Result, nat_lt}
+use Rattle.std.specs.Prelude.{ℕ, if◌then◌else◌, List, [], ◌∷◌, ◌++◌, length, replicate, Ok, Err, Result, nat_lt}
 use Rattle.protocol.specs.declared.measures.Measures.{Measures}
 use Rattle.protocol.specs.declared.refusal.Refusal.{Refusal}
 use Rattle.protocol.specs.declared.refusal.Refusal.TheVariants as refusal
-use Rattle.protocol.specs.Lines.{blank_line}
-use Rattle.protocol.specs.Places.{line_count, lock_count}
+use Rattle.memory.specs.Meaning.{Mem}
 use Rattle.memory.specs.Words.{table_of}
-use Rattle.cluster.specs.Making.{all_resting, blank_entry}
+use Rattle.cluster.specs.Board.{new_board}
 use Rattle.text.specs.declared.step.Step.{Step}
 use Rattle.text.specs.Lines.{line_of, summary_lines, refusal_line}
 use Rattle.trace.specs.declared.record.Record.{Record}
@@ -20,14 +19,17 @@ lines_of (step ∷ steps) = line_of step ++ lines_of steps
 
 -- the lines of all steps of a run, and its summary
 unfoldable pub all_lines : Measures → List Record → Running → List ℕ
-all_lines m records s = lines_of (steps_of m records s) ++ summary_lines (summary_of m records (ran m records s))
+all_lines m records s =
+    lines_of (steps_of m records s) ++ summary_lines (summary_of m records (ran m records s))
+
+-- the run of records on a new board over a memory
+abbrev pub listing_on : Measures → Mem → List Record → List ℕ
+listing_on m mem records = all_lines m records (started records (new_board m mem))
 
 -- a new cluster with the trace's processors, over 1,024 words, all 0
 abbrev pub run_lines : Content → List ℕ
 run_lines trace =
-    let m = listing_measures trace.processors in
-    all_lines m trace.records
-    (started trace.records all_resting (replicate (line_count m) blank_line) (replicate (lock_count m) blank_entry) (table_of (replicate 1024 0)))
+    listing_on (listing_measures trace.processors) (table_of (replicate 1024 0)) trace.records
 
 abbrev listed : Result Content Refusal → List ℕ
 listed (Ok trace) = run_lines trace
@@ -35,4 +37,5 @@ listed (Err refusal) = refusal_line refusal
 
 -- an input of over 65,536 bytes counts as one with a wrong trailer
 abbrev pub listing_of : List ℕ → List ℕ
-listing_of input = cond (nat_lt 65536 (length input)) (refusal_line refusal.Trailer) (listed (trace_of input))
+listing_of input =
+    if nat_lt 65536 (length input) then refusal_line refusal.Trailer else listed (trace_of input)

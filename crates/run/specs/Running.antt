@@ -1,17 +1,15 @@
--- A run: the records of a trace issued one after another over a cluster, its tables and a memory.
-use Rattle.std.specs.Prelude.{◌≡◌, ℕ, zero, suc, ◌+◌, ◌*◌, Bool, cond, not, ◌&&◌, List, [], ◌∷◌, length, is_some, None, Ok, Err, Option, Result, ◌==◌, nat_lt, slice_index_or}
+-- A run: the records of a trace issued one after another on a board.
+use Rattle.std.specs.Prelude.{◌≡◌, ℕ, zero, suc, ◌+◌, ◌*◌, Bool, if◌then◌else◌, not, ◌&&◌, List, [], ◌∷◌, length, is_some, None, Ok, Err, Option, Result, ◌==◌, nat_lt, slice_index_or}
+use Rattle.protocol.specs.declared.answer.Answer.{Answer}
 use Rattle.protocol.specs.declared.command.Command.TheVariants.{R}
 use Rattle.protocol.specs.declared.command.Request.{Request}
-use Rattle.protocol.specs.declared.line.Line.{Line}
-use Rattle.protocol.specs.declared.lock.LockEntry.{LockEntry}
 use Rattle.protocol.specs.declared.measures.Measures.{Measures}
 use Rattle.protocol.specs.declared.refusal.Refusal.{Refusal}
 use Rattle.protocol.specs.declared.refusal.Refusal.TheVariants.{TableLength}
 use Rattle.protocol.specs.Finding.{lowest_from}
-use Rattle.memory.specs.Meaning.{Mem}
-use Rattle.cluster.specs.declared.cluster.Processor.{Processor}
 use Rattle.cluster.specs.Making.{tables_fit}
-use Rattle.cluster.specs.Rule.{Outcome, command_rule}
+use Rattle.cluster.specs.Board.{Board, Outcome, refusing}
+use Rattle.cluster.specs.Rule.{command_rule}
 use Rattle.cluster.specs.Waiting.{awaited_in, idle}
 use Rattle.trace.specs.declared.record.Record.{Record}
 use Rattle.trace.specs.Traces.{Content, trace_of, when_some}
@@ -21,10 +19,7 @@ use Rattle.run.specs.Answered.{cost_of, finishes_record}
 
 -- what a run has between two steps; `unfinished` tells it for each record's index
 pub record Running : Type 0 where
-  pub processors : List Processor
-  pub lines : List Line
-  pub locks : List LockEntry
-  pub memory : Mem
+  pub board : Board
   pub unfinished : ℕ → Bool
   pub steps : ℕ
   pub cycles : ℕ
@@ -38,43 +33,47 @@ request_at records i = (slice_index_or records i no_record).request
 -- how many of `count` numbers from `from` on pass the test
 abbrev pub how_many : (ℕ → Bool) → ℕ → ℕ → ℕ
 how_many test from zero = 0
-how_many test from (suc count) = cond (test from) 1 0 + how_many test (from + 1) count
+how_many test from (suc count) = (if test from then 1 else 0) + how_many test (from + 1) count
 
 module _ (m : Measures) (records : List Record) where
   -- the record is unfinished and its processor does not wait
   abbrev pub may_step : Running → ℕ → Bool
-  may_step s i = s.unfinished i && not (is_some (awaited_in m s.processors (request_at records i).processor))
+  may_step s i =
+      let asking = (request_at records i).processor in
+      s.unfinished i && not (is_some (awaited_in m s.board.processors asking))
 
   -- the earliest of these; a processor's earlier unfinished record comes before its later ones
   unfoldable pub due : Running → Option ℕ
   due s = lowest_from (may_step s) 0 (length records)
 
-  abbrev pub outcome_at : Running → ℕ → Outcome
-  outcome_at s i = command_rule m s.processors s.lines s.locks s.memory (request_at records i)
+  abbrev pub outcome_at : Running → ℕ → Outcome Answer
+  outcome_at s i = command_rule m s.board (request_at records i)
 
   -- WAIT leaves the record unfinished, every other answer finishes it
   unfoldable pub stepped : Running → ℕ → Running
   stepped s i =
       let o = outcome_at s i in
       record {
-        processors = o.processors;
-        lines = o.lines;
-        locks = o.locks;
-        memory = o.memory;
+        board = o.board;
         unfinished = λ j. s.unfinished j && not (finishes_record o.answer && j == i);
         steps = s.steps + 1;
         cycles = s.cycles + cost_of o.answer;
       }
 
   unfoldable pub shown : Running → ℕ → Step
-  shown s i = record { number = s.steps + 1; request = request_at records i; answer = (outcome_at s i).answer }
+  shown s i =
+      record {
+        number = s.steps + 1;
+        request = request_at records i;
+        answer = (outcome_at s i).answer;
+      }
 
   abbrev pub left : Running → ℕ
   left s = how_many s.unfinished 0 (length records)
 
   -- falls with every step, so that a run has no more steps than this
   abbrev pub to_go : Running → ℕ
-  to_go s = m.processors * left s + idle m.processors s.processors
+  to_go s = m.processors * left s + idle m.processors s.board.processors
 
   -- at most n steps, as many as are possible
   unfoldable pub run_from : ℕ → Running → Running
@@ -96,51 +95,29 @@ module _ (m : Measures) (records : List Record) where
   summary_of s = record { steps = s.steps; cycles = s.cycles; left = left s }
 
 -- before the first step every record is unfinished
-abbrev pub started : List Record → List Processor → List Line → List LockEntry → Mem → Running
-started records ps lines locks mem =
-    record {
-      processors = ps;
-      lines = lines;
-      locks = locks;
-      memory = mem;
-      unfinished = λ i. nat_lt i (length records);
-      steps = 0;
-      cycles = 0;
-    }
+abbrev pub started : List Record → Board → Running
+started records b =
+    record { board = b; unfinished = λ i. nat_lt i (length records); steps = 0; cycles = 0 }
 
--- what a run of a trace answers, and what it leaves
-pub record Ran : Type 0 where
-  pub answer : Result Summary Refusal
-  pub processors : List Processor
-  pub lines : List Line
-  pub locks : List LockEntry
-  pub memory : Mem
-
-module _ (m : Measures) (ps : List Processor) (lines : List Line) (locks : List LockEntry) (mem : Mem) where
-  -- a refused run changes nothing
-  abbrev pub not_run : Refusal → Ran
-  not_run refusal = record { answer = Err refusal; processors = ps; lines = lines; locks = locks; memory = mem }
-
+module _ (m : Measures) (b : Board) where
   abbrev pub end_of : List Record → Running
-  end_of records = ran m records (started records ps lines locks mem)
+  end_of records = ran m records (started records b)
 
-  abbrev pub ran_all : List Record → Ran
+  abbrev pub ran_all : List Record → Outcome Summary
   ran_all records =
       let end = end_of records in
-      record {
-        answer = Ok (summary_of m records end);
-        processors = end.processors;
-        lines = end.lines;
-        locks = end.locks;
-        memory = end.memory;
-      }
+      record { answer = Ok (summary_of m records end); board = end.board }
 
-  abbrev ran_trace : Result Content Refusal → Ran
+  abbrev ran_trace : Result Content Refusal → Outcome Summary
   ran_trace (Ok trace) = ran_all trace.records
-  ran_trace (Err refusal) = not_run refusal
+  ran_trace (Err refusal) = refusing b refusal
 
-  unfoldable pub run_rule : List ℕ → Ran
-  run_rule bytes = cond (tables_fit m (length lines) (length locks)) (ran_trace (trace_of bytes)) (not_run TableLength)
+  -- what a run of a trace answers, and what it leaves
+  unfoldable pub run_rule : List ℕ → Outcome Summary
+  run_rule bytes =
+      if tables_fit m (length b.lines) (length b.locks)
+      then ran_trace (trace_of bytes)
+      else refusing b TableLength
 
   -- no record is due any more at the end
   abbrev pub Ended : Result Content Refusal → Type 0

@@ -9,6 +9,8 @@ use protocol::line::Line;
 use protocol::lock::LockEntry;
 use std::alloc::{AllocError, Global};
 
+/// A cluster and tables of its own: processors x columns x ways lines, and processors x lock
+/// entries entries.
 #[derive(Drop)]
 pub struct Board {
     pub cluster: Cluster,
@@ -17,9 +19,10 @@ pub struct Board {
 }
 
 impl Board {
+    /// A new cluster of a geometry with new tables. Only want of memory is an error.
     pub fn new(heap: Global, geometry: Geometry) -> Result<Board, AllocError>
         ensures new { IfOk result (λ b. IsNew geometry b.cluster b.lines.items b.locks.items) }
-        ensures law { IfOk result (λ b. LawFrom geometry b.cluster.processors b.lines.items b.locks.items) }
+        ensures law { IfOk result (λ b. LawFrom geometry b.cluster b.lines.items b.locks.items) }
     {
         Ok(Board {
             cluster: Cluster::at_rest(geometry),

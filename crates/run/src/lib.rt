@@ -6,5 +6,6 @@ pub mod listing;
 pub mod run;
 pub mod running;
 pub mod stepping;
+pub mod watching;
 
 pub use text::{digits, names};

@@ -6,8 +6,9 @@ pub use crate::running::run_trace;
 pub use text::step::{Step, Summary};
 use trace::trace::Trace;
 
-// For each processor its first unfinished record, or the number of records where it has none: the place where a search
-// for one ends. With an `Option` each reader would first turn none into that number.
+/// What a run keeps between two steps: the trace; for each processor the index of its first
+/// unfinished record, or the number of records where it has none; the steps so far and their bus
+/// cycles.
 #[derive(Clone, Copy)]
 pub struct Run<'a> {
     pub(crate) trace: Trace<'a>,

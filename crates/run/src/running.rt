@@ -2,10 +2,10 @@
 ghost use Rattle.std.specs.Prelude.{◌≡◌, ◌+◌, ◌≤◌, None, OnOk};
 ghost use Rattle.trace.specs.Traces.{trace_of};
 ghost use Rattle.law.specs.Along.{LawAlong};
-ghost use Rattle.law.specs.Calls.{board_of};
+ghost use Rattle.cluster.specs.Board.{board_of};
 ghost use Rattle.run.specs.Commands.{AsCommands, issued, steps_on};
-ghost use Rattle.run.specs.Kept.{records_for, state_of};
-ghost use Rattle.run.specs.Running.{due, to_go, ran, run_rule, Ended};
+ghost use Rattle.run.specs.Kept.{records_for, state_of, to_go_on, ran_on};
+ghost use Rattle.run.specs.Running.{due, run_rule, Ended};
 
 use crate::run::Run;
 use cluster::cluster::Cluster;
@@ -17,8 +17,7 @@ use text::step::Summary;
 use trace::trace::Trace;
 
 impl<'a> Run<'a> {
-    // Takes steps until none is possible. The listing's loop is not this one: it writes each step, and a closure that
-    // writes would have to be told of by what it leaves after each call.
+    // Takes steps until none is possible.
     fn finish<M: Memory>(
         &mut self,
         cluster: &mut Cluster,
@@ -26,18 +25,26 @@ impl<'a> Run<'a> {
         locks: &mut [LockEntry],
         memory: &mut M,
     )
-        requires { self.old.steps + to_go cluster.old.geometry.measures (records_for self.old) (state_of self.old cluster.old.processors lines.old locks.old (M.Memory.model memory.old)) ≤ 999999999 }
-        ensures after { state_of self.new cluster.new.processors lines.new locks.new (M.Memory.model memory.new) ≡ ran cluster.old.geometry.measures (records_for self.old) (state_of self.old cluster.old.processors lines.old locks.old (M.Memory.model memory.old)) }
-        ensures ended { due cluster.old.geometry.measures (records_for self.old) (state_of self.new cluster.new.processors lines.new locks.new (M.Memory.model memory.new)) ≡ None }
+        requires { let before = board_of cluster.old lines.old locks.old (M.model memory.old) in
+            self.old.steps + to_go_on cluster.old.geometry.measures self.old before ≤ 999999999 }
+        ensures after { let before = board_of cluster.old
+            lines.old locks.old (M.model memory.old) in
+            let after = board_of cluster.new lines.new locks.new (M.model memory.new) in
+            state_of self.new after ≡ ran_on cluster.old.geometry.measures self.old before }
+        ensures ended { let after = board_of cluster.new lines.new locks.new (M.model memory.new) in
+            let state = state_of self.new after in
+            due cluster.old.geometry.measures (records_for self.old) state ≡ None }
         ensures trace { self.new.trace ≡ self.old.trace }
         ensures geometry { cluster.new.geometry ≡ cluster.old.geometry }
-        ensures kept { M.Memory.standing memory.new ≡ M.Memory.standing memory.old }
+        ensures kept { M.standing memory.new ≡ M.standing memory.old }
     {
         while self.step(cluster, lines, locks, memory).is_some() {}
     }
 }
 
-// Runs a trace to its end. Refuses with 2, 12 or 13, only before the first step.
+/// Runs a trace to its end on a cluster, its tables and a memory: the number of steps, their bus
+/// cycles and the number of records left. Refuses with 2 a table of wrong length, lines first, then
+/// with 12 or 13 as reading a trace does; only before the first step, and then nothing changes.
 #[tactic(auto, unfolding(crate::specs::Running::run_rule))]
 pub fn run_trace<M: Memory>(
     cluster: &mut Cluster,
@@ -46,16 +53,22 @@ pub fn run_trace<M: Memory>(
     memory: &mut M,
     bytes: &[u8],
 ) -> Result<Summary, Refusal>
-    ensures answer { result ≡ (run_rule cluster.old.geometry.measures cluster.old.processors lines.old locks.old (M.Memory.model memory.old) bytes.now).answer }
-    ensures processors { cluster.new.processors ≡ (run_rule cluster.old.geometry.measures cluster.old.processors lines.old locks.old (M.Memory.model memory.old) bytes.now).processors }
-    ensures lines { lines.new ≡ (run_rule cluster.old.geometry.measures cluster.old.processors lines.old locks.old (M.Memory.model memory.old) bytes.now).lines }
-    ensures locks { locks.new ≡ (run_rule cluster.old.geometry.measures cluster.old.processors lines.old locks.old (M.Memory.model memory.old) bytes.now).locks }
-    ensures memory { M.Memory.model memory.new ≡ (run_rule cluster.old.geometry.measures cluster.old.processors lines.old locks.old (M.Memory.model memory.old) bytes.now).memory }
-    ensures ended { OnOk result (Ended cluster.old.geometry.measures cluster.old.processors lines.old locks.old (M.Memory.model memory.old) (trace_of bytes.now)) }
-    ensures commands { let before = board_of cluster.old.processors lines.old locks.old (M.Memory.model memory.old) in OnOk result (AsCommands cluster.old.geometry.measures before (board_of cluster.new.processors lines.new locks.new (M.Memory.model memory.new)) (steps_on cluster.old.geometry.measures before (trace_of bytes.now))) }
-    ensures law { let before = board_of cluster.old.processors lines.old locks.old (M.Memory.model memory.old) in OnOk result (LawAlong cluster.old.geometry before (issued (steps_on cluster.old.geometry.measures before (trace_of bytes.now)))) }
+    ensures answer { let before = board_of cluster.old lines.old locks.old (M.model memory.old) in
+        result ≡ (run_rule cluster.old.geometry.measures before bytes.now).answer }
+    ensures board { let before = board_of cluster.old lines.old locks.old (M.model memory.old) in
+        board_of cluster.new lines.new locks.new (M.model memory.new)
+        ≡ (run_rule cluster.old.geometry.measures before bytes.now).board }
+    ensures ended { let before = board_of cluster.old lines.old locks.old (M.model memory.old) in
+        OnOk result (Ended cluster.old.geometry.measures before (trace_of bytes.now)) }
+    ensures commands { let before = board_of cluster.old lines.old locks.old (M.model memory.old) in
+        let after = board_of cluster.new lines.new locks.new (M.model memory.new) in
+        let steps = steps_on cluster.old.geometry.measures before (trace_of bytes.now) in
+        OnOk result (AsCommands cluster.old.geometry.measures before after steps) }
+    ensures law { let before = board_of cluster.old lines.old locks.old (M.model memory.old) in
+        let steps = steps_on cluster.old.geometry.measures before (trace_of bytes.now) in
+        OnOk result (LawAlong cluster.old.geometry before (issued steps)) }
     ensures geometry { cluster.new.geometry ≡ cluster.old.geometry }
-    ensures kept { M.Memory.standing memory.new ≡ M.Memory.standing memory.old }
+    ensures kept { M.standing memory.new ≡ M.standing memory.old }
 {
     cluster.check_tables(lines, locks)?;
     let mut run = Run::start(Trace::read(bytes)?);

@@ -1,12 +1,12 @@
 // The steps of a run: each issues the earliest record whose processor does not wait.
 ghost use Rattle.std.specs.Prelude.{◌≡◌, ℕ, ◌+◌, ◌<◌, ◌≤◌, not, length, is_some, OnSome, slice_index};
+ghost use Rattle.cluster.specs.Board.{board_of};
 ghost use Rattle.cluster.specs.Waiting.{awaited_in};
 ghost use Rattle.trace.specs.Sizes.{records_in};
 ghost use Rattle.trace.specs.Traces.{next_of};
 ghost use Rattle.run.specs.Answered.{cost_of, finishes_record};
-ghost use Rattle.run.specs.Kept.{AtFirst, records_for, is_left, left_by, summary_by, state_of, next_step, after_step, Earliest, next_after};
+ghost use Rattle.run.specs.Kept.{AtFirst, is_left, left_by, summary_by, state_of, next_step, after_step, Falls, Earliest, next_after};
 ghost use Rattle.run.specs.Progress.{Stepped};
-ghost use Rattle.run.specs.Running.{to_go};
 
 use crate::run::Run;
 use cluster::cluster::Cluster;
@@ -36,7 +36,8 @@ fn finishes(answer: &Result<Answer, Refusal>) -> bool
 }
 
 fn awake(cluster: &Cluster, processor: u8) -> bool
-    ensures { result ≡ not (is_some (awaited_in cluster.now.geometry.measures cluster.now.processors processor)) }
+    ensures { let measures = cluster.now.geometry.measures in
+        result ≡ not (is_some (awaited_in measures cluster.now.processors processor)) }
 {
     cluster.waits_for(processor).is_none()
 }
@@ -63,7 +64,8 @@ impl<'a> Run<'a> {
 
     // The processor whose next record is the earliest among those that do not wait.
     fn due(&self, cluster: &Cluster) -> Option<u8>
-        ensures { Earliest (awaited_in cluster.now.geometry.measures cluster.now.processors) self.now.next (records_in self.now.trace.records.now) result }
+        ensures { let waits = awaited_in cluster.now.geometry.measures cluster.now.processors in
+            Earliest waits self.now.next (records_in self.now.trace.records.now) result }
     {
         let next: &[usize] = &self.next;
         let count = self.trace.count();
@@ -75,11 +77,14 @@ impl<'a> Run<'a> {
     // Counts the step and its cycles; an answer that finishes its record moves its processor on.
     fn account(&mut self, processor: u8, answer: &Result<Answer, Refusal>)
         requires listed { processor < 8 }
-        requires inside { slice_index self.old.next processor < records_in self.old.trace.records.now }
+        requires inside { let count = records_in self.old.trace.records.now in
+            slice_index self.old.next processor < count }
         requires few { self.old.steps < 1000000000 }
         requires cost { cost_of answer.now ≤ 4000 }
         ensures trace { self.new.trace ≡ self.old.trace }
-        ensures next { self.new.next ≡ next_after self.old.trace.records.now self.old.next processor (slice_index self.old.next processor) answer.now }
+        ensures next { let bytes = self.old.trace.records.now in
+            let index = slice_index self.old.next processor in
+            self.new.next ≡ next_after bytes self.old.next processor index answer.now }
         ensures steps { self.new.steps ≡ self.old.steps + 1 }
         ensures cycles { self.new.cycles ≡ self.old.cycles + cost_of answer.now }
     {
@@ -100,13 +105,21 @@ impl<'a> Run<'a> {
         memory: &mut M,
     ) -> Option<Step>
         requires { self.old.steps < 1000000000 }
-        ensures stepped { Stepped (records_in self.old.trace.records.now) result self.old self.new cluster.old.processors cluster.new.processors }
-        ensures value { result ≡ next_step cluster.old.geometry.measures self.old (state_of self.old cluster.old.processors lines.old locks.old (M.Memory.model memory.old)) }
-        ensures after { state_of self.new cluster.new.processors lines.new locks.new (M.Memory.model memory.new) ≡ after_step cluster.old.geometry.measures self.old (state_of self.old cluster.old.processors lines.old locks.old (M.Memory.model memory.old)) }
-        ensures less { OnSome result (to_go cluster.old.geometry.measures (records_for self.old) (state_of self.new cluster.new.processors lines.new locks.new (M.Memory.model memory.new)) < to_go cluster.old.geometry.measures (records_for self.old) (state_of self.old cluster.old.processors lines.old locks.old (M.Memory.model memory.old))) }
+        ensures value { let before = board_of cluster.old
+            lines.old locks.old (M.model memory.old) in
+            result ≡ next_step cluster.old.geometry.measures self.old before }
+        ensures after { let before = board_of cluster.old
+            lines.old locks.old (M.model memory.old) in
+            let after = board_of cluster.new lines.new locks.new (M.model memory.new) in
+            state_of self.new after ≡ after_step cluster.old.geometry.measures self.old before }
+        ensures stepped { let count = records_in self.old.trace.records.now in
+            let before = cluster.old.processors in
+            Stepped count result self.old self.new before cluster.new.processors }
+        ensures less { let before = board_of cluster.old lines.old locks.old (M.model memory.old) in
+            OnSome result (Falls cluster.old.geometry.measures self.old before) }
         ensures trace { self.new.trace ≡ self.old.trace }
         ensures geometry { cluster.new.geometry ≡ cluster.old.geometry }
-        ensures kept { M.Memory.standing memory.new ≡ M.Memory.standing memory.old }
+        ensures kept { M.standing memory.new ≡ M.standing memory.old }
     {
         let processor = self.due(cluster)?;
         let next = self.trace.record(self.next[processor as usize])?;
@@ -119,8 +132,7 @@ impl<'a> Run<'a> {
         })
     }
 
-    #[tactic(auto, using(crate::proofs::Turns::many, crate::proofs::Turns::request_there), unfolding(crate::specs::Kept::is_left))]
-    // Tried as `is_some_and` of the record: the check leaves open what the closure returns.
+    // By `is_some_and` of the record the check leaves open what the closure returns.
     fn unfinished(&self, index: usize) -> bool
         ensures { result ≡ is_left self.now index }
     {

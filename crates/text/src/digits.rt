@@ -2,6 +2,7 @@
 ghost use Rattle.std.specs.Prelude.{◌≡◌, ◌<◌, ◌≤◌};
 ghost use Rattle.text.specs.Digits.{digit_of, fixed};
 
+// The digits 0 to F, each as a byte.
 const DIGITS: [u8; 16] = *b"0123456789ABCDEF";
 
 fn digit(value: u64) -> u8
@@ -25,14 +26,16 @@ fn digits<const W: usize>(value: u64, base: u64) -> [u8; W]
     out
 }
 
-// The last W decimal digits. A format such as {:07} would write more digits of a larger number.
+// No format: one such as {:07} would write more digits of a larger number.
+/// The last W decimal digits of a number, as bytes, with 0 in front where it has fewer.
 pub fn decimal<const W: usize>(value: u64) -> [u8; W]
     ensures { result ≡ fixed 10 W value }
 {
     digits::<W>(value, 10)
 }
 
-// The eight capital hexadecimal digits, by the code of decimal: a format such as {:08X} would need a String first.
+// By the code of `decimal`: a format such as {:08X} would need a String first.
+/// The eight hexadecimal digits of a number, as bytes, in capitals.
 pub fn hexadecimal(value: u32) -> [u8; 8]
     ensures { result ≡ fixed 16 8 value }
 {

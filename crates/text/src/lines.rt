@@ -9,7 +9,8 @@ use protocol::answer::Answer;
 use protocol::refusal::Refusal;
 use std::alloc::AllocError;
 
-// What a line shows of an answer or a refusal. Its names are arrays, since a refusal's is its number in digits.
+// What a line shows of an answer or a refusal. Its names are arrays, since a refusal's is its
+// number in digits.
 #[derive(Clone, Copy)]
 struct ShownAnswer {
     name: [u8; 2],
@@ -49,7 +50,8 @@ fn shown_of(answer: &Result<Answer, Refusal>) -> ShownAnswer
     }
 }
 
-// No format: one to a Vec fails with an io::Error, where these fail only by memory, and writes digits past their places.
+// No format: one to a Vec fails with an io::Error, where these fail only by memory, and writes
+// digits past their places.
 fn put_text(out: &mut Vec<u8>, text: &[u8], end: u8) -> Result<(), AllocError>
     ensures { OnOk result (out.new.items ≡ out.old.items ++ (text.now ++ (end ∷ []))) }
 {
@@ -58,14 +60,14 @@ fn put_text(out: &mut Vec<u8>, text: &[u8], end: u8) -> Result<(), AllocError>
     Ok(())
 }
 
-// A field and the space behind it.
+/// Puts a field and the space behind it at the end of `out`. The one error is want of memory.
 pub fn put_field(out: &mut Vec<u8>, text: &[u8]) -> Result<(), AllocError>
     ensures { OnOk result (out.new.items ≡ out.old.items ++ field text.now) }
 {
     put_text(out, text, b' ')
 }
 
-// The last field of a line.
+/// Puts the last field of a line and byte 10 at the end of `out`. The one error is want of memory.
 pub fn put_last(out: &mut Vec<u8>, text: &[u8]) -> Result<(), AllocError>
     ensures { OnOk result (out.new.items ≡ out.old.items ++ last_field text.now) }
 {
@@ -83,6 +85,8 @@ fn put_answer(out: &mut Vec<u8>, shown: ShownAnswer) -> Result<(), AllocError>
     Ok(())
 }
 
+/// Puts a step's line at the end of `out`: step, processor, command, address, answer, word, state
+/// found, state left, cycles. The one error is want of memory.
 #[tactic(auto, unfolding(crate::specs::Lines::line_of))]
 pub fn put_step(out: &mut Vec<u8>, step: &Step) -> Result<(), AllocError>
     ensures { OnOk result (out.new.items ≡ out.old.items ++ line_of step.now) }
@@ -105,6 +109,8 @@ fn put_stuck(out: &mut Vec<u8>, left: u32) -> Result<(), AllocError>
     Ok(())
 }
 
+/// Puts the line TOTAL at the end of `out`, and the line STUCK where records are left. The one
+/// error is want of memory.
 #[tactic(auto, unfolding(crate::specs::Lines::summary_lines))]
 pub fn put_summary(out: &mut Vec<u8>, summary: &Summary) -> Result<(), AllocError>
     ensures { OnOk result (out.new.items ≡ out.old.items ++ summary_lines summary.now) }
@@ -115,7 +121,9 @@ pub fn put_summary(out: &mut Vec<u8>, summary: &Summary) -> Result<(), AllocErro
     Ok(())
 }
 
-// A trace that cannot be read prints only this.
+/// Puts the line TRACE at the end of `out`, which is all that is listed of a refused trace: the
+/// refusal's number in two digits, and behind 13 the record's index, from 0, in seven. The one
+/// error is want of memory.
 pub fn put_refusal(out: &mut Vec<u8>, refusal: Refusal) -> Result<(), AllocError>
     ensures { OnOk result (out.new.items ≡ out.old.items ++ refusal_line refusal) }
 {

@@ -1,10 +1,11 @@
-// The names of commands and states. Each fills two places, which an array says by its type and a &str would not.
+// The names of commands and states. Each fills two places, as an array says and a &str does not.
 ghost use Rattle.std.specs.Prelude.{◌≡◌};
 ghost use Rattle.text.specs.Names.{command_named, state_named};
 
 use protocol::command::Command;
 use protocol::state::State;
 
+/// A command's name, filled with a space to two places.
 pub fn command_name(command: Command) -> [u8; 2]
     ensures { result ≡ command_named command }
 {
@@ -21,6 +22,7 @@ pub fn command_name(command: Command) -> [u8; 2]
     }
 }
 
+/// A state's name, filled with a space to two places.
 pub fn state_name(state: State) -> [u8; 2]
     ensures { result ≡ state_named state }
 {

@@ -14,21 +14,25 @@ use Rattle.trace.specs.Writing.{trailer_bytes}
 pub too_short : (bs : List ℕ) → length bs < 16 → decoded bs ≡ None
 too_short bs h = grind (arith, nat_tests)
 
-pub past_records : (bs : List ℕ) (i : ℕ) → records_in bs ≤ i → length (take 16 (drop (i * 16) bs)) < 16
+pub past_records : (bs : List ℕ) (i : ℕ) → records_in bs ≤ i
+    → length (take 16 (drop (i * 16) bs)) < 16
 past_records bs i h =
     let here = length-drop (i * 16) bs in
     let some = length-take 16 (drop (i * 16) bs) in
     grind arith
 
 -- the records as arrays of sixteen bytes
-chunk_at : (count i : ℕ) (bs d : List ℕ) → i < count → get_or (first_chunks 16 count bs) i d ≡ take 16 (drop (i * 16) bs)
+chunk_at : (count i : ℕ) (bs d : List ℕ) → i < count
+    → get_or (first_chunks 16 count bs) i d ≡ take 16 (drop (i * 16) bs)
 chunk_at zero i bs d h = absurd (omega (arith, h))
 chunk_at (suc count) zero bs d h = refl
 chunk_at (suc count) (suc i) bs d h =
     let on : 16 + i * 16 ≡ suc i * 16 = omega arith in
-    chunk_at count i (drop 16 bs) d (omega (arith, h)) ∙ ap (take 16) (drop-drop (i * 16) 16 bs ∙ ap (λ m. drop m bs) on)
+    chunk_at count i (drop 16 bs) d (omega (arith, h))
+    ∙ ap (take 16) (drop-drop (i * 16) 16 bs ∙ ap (λ m. drop m bs) on)
 
-pub record_at : (bs : List ℕ) (chunks : List (List ℕ)) (i : ℕ) (d : List ℕ) → chunks ≡ first_chunks 16 (length bs / 16) bs → length chunks ≡ length bs / 16
+pub record_at : (bs : List ℕ) (chunks : List (List ℕ)) (i : ℕ) (d : List ℕ)
+    → chunks ≡ first_chunks 16 (length bs / 16) bs → length chunks ≡ length bs / 16
     → i < length chunks → get_or chunks i d ≡ take 16 (drop (i * 16) bs)
 record_at bs chunks i d front long h =
     ap (λ cs. get_or cs i d) front ∙ chunk_at (length bs / 16) i bs d (omega (arith, h, long))
@@ -38,28 +42,38 @@ module _ (bs next rest : List ℕ) (split : bs ≡ next ++ rest) (long : length 
   pub records_more : records_in bs ≡ suc (records_in rest)
   records_more = let all = ap length split ∙ length-append next rest in omega arith
 
-  pub wrong_next : (processors stamp i : ℕ) (o : Option Record) → o ≡ lawful_record processors stamp next
-      → when_some o (λ r. wrong_from processors r.stamp (i + 1) (records_in rest) rest) (Some i) ≡ wrong_from processors stamp i (records_in bs) bs
+  pub wrong_next : (processors stamp i : ℕ) (o : Option Record)
+      → o ≡ lawful_record processors stamp next
+      → when_some o (λ r. wrong_from processors r.stamp (i + 1) (records_in rest) rest) (Some i)
+      ≡ wrong_from processors stamp i (records_in bs) bs
   wrong_next processors stamp i o e =
-      let behind = λ (ys : List ℕ) (r : Record). wrong_from processors r.stamp (i + 1) (records_in rest) ys in
+      let behind = λ (ys : List ℕ) (r : Record).
+      wrong_from processors r.stamp (i + 1) (records_in rest) ys in
       sym (ap (λ n. wrong_from processors stamp i n bs) records_more
-      ∙ ap (λ x. when_some (lawful_record processors stamp x) (behind (drop 16 bs)) (Some i)) (ap (take 16) split ∙ take_at next rest 16 long)
-      ∙ ap (λ ys. when_some (lawful_record processors stamp next) (behind ys) (Some i)) (ap (drop 16) split ∙ drop_at next rest 16 long)
+      ∙ ap (λ x. when_some (lawful_record processors stamp x) (behind (drop 16 bs)) (Some i))
+      (ap (take 16) split ∙ take_at next rest 16 long)
+      ∙ ap (λ ys. when_some (lawful_record processors stamp next) (behind ys) (Some i))
+      (ap (drop 16) split ∙ drop_at next rest 16 long)
       ∙ ap (λ x. when_some x (behind rest) (Some i)) (sym e))
 
 -- the first n records do not depend on the bytes behind them
 module _ (processors : ℕ) where
-  pub wrong_front : (n stamp i : ℕ) (xs ys : List ℕ) → n * 16 ≤ length xs → wrong_from processors stamp i n (xs ++ ys) ≡ wrong_from processors stamp i n xs
+  pub wrong_front : (n stamp i : ℕ) (xs ys : List ℕ) → n * 16 ≤ length xs
+      → wrong_from processors stamp i n (xs ++ ys) ≡ wrong_from processors stamp i n xs
   wrong_front zero stamp i xs ys h = refl
   wrong_front (suc n) stamp i xs ys h =
       let left = length-drop 16 xs in
       let front = take-append-le 16 xs ys (omega arith) in
       let rear = drop-append-le 16 xs ys (omega arith) in
-      let rest : (r : Record) → wrong_from processors r.stamp (i + 1) n (drop 16 (xs ++ ys)) ≡ wrong_from processors r.stamp (i + 1) n (drop 16 xs)
-      = λ r. ap (wrong_from processors r.stamp (i + 1) n) rear ∙ wrong_front n r.stamp (i + 1) (drop 16 xs) ys (omega arith) in
+      let rest : (r : Record)
+      → wrong_from processors r.stamp (i + 1) n (drop 16 (xs ++ ys))
+      ≡ wrong_from processors r.stamp (i + 1) n (drop 16 xs)
+      = λ r. ap (wrong_from processors r.stamp (i + 1) n) rear
+      ∙ wrong_front n r.stamp (i + 1) (drop 16 xs) ys (omega arith) in
       λ j. when_some (lawful_record processors stamp (front j)) (λ r. rest r j) (Some i)
 
-pub records_front : (n : ℕ) (xs ys : List ℕ) → n * 16 ≤ length xs → records_from n (xs ++ ys) ≡ records_from n xs
+pub records_front : (n : ℕ) (xs ys : List ℕ) → n * 16 ≤ length xs
+    → records_from n (xs ++ ys) ≡ records_from n xs
 records_front zero xs ys h = refl
 records_front (suc n) xs ys h =
     let left = length-drop 16 xs in
@@ -76,9 +90,10 @@ module _ (bs : List ℕ) (size : ℕ) (held : size + 8 ≤ length bs) where
 
   length_part : length part ≡ size
   length_part =
-      let rest = length-drop (length bs - 8 - size) bs in
-      let wide : length bs - 8 - (length bs - 8 - size) ≤ length (drop (length bs - 8 - size) bs) = omega arith in
-      length-take-le (length bs - 8 - (length bs - 8 - size)) (drop (length bs - 8 - size) bs) wide ∙ omega arith
+      let start = length bs - 8 - size in
+      let rest = length-drop start bs in
+      let wide : length bs - 8 - start ≤ length (drop start bs) = omega arith in
+      length-take-le (length bs - 8 - start) (drop start bs) wide ∙ omega arith
 
   pub last_part : (processors : ℕ) → trailer_bytes size processors ≡ drop (length bs - 8) bs
       → part ++ trailer_bytes (length part) processors ≡ drop (length bs - (length part + 8)) bs

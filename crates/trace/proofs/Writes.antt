@@ -26,7 +26,8 @@ module _ (processors count stamp long : ℕ) (r : Record) (rest : List Record) w
   abbrev left : Option Refusal
   left = first_refusal processors (count + 1) r.stamp long rest
 
-  by_first : (o : Option Refusal) → put_refusal processors count stamp long r ≡ o → when_some o (λ e. Some e) left ≡ None
+  by_first : (o : Option Refusal) → put_refusal processors count stamp long r ≡ o
+      → when_some o (λ e. Some e) left ≡ None
       → (None ≡ put_refusal processors count stamp long r) × (left ≡ None)
   by_first None e h = (sym e, h)
   by_first (Some refusal) e h = absurd (not_some h)
@@ -37,23 +38,30 @@ module _ (processors count stamp long : ℕ) (r : Record) (rest : List Record) w
   none_refused = by_first (put_refusal processors count stamp long r) refl
 
 -- one more record behind those written
-pub written_next : (output : List ℕ) (rs : List Record) (r : Record) (i : ℕ) → i ≤ length rs → take (i + 1) rs ≡ take i rs ++ (r ∷ [])
-    → written (written output 0 (flat_map encoded (take i rs))) (i * 16) (encoded r) ≡ written output 0 (flat_map encoded (take (i + 1) rs))
+pub written_next : (output : List ℕ) (rs : List Record) (r : Record) (i : ℕ) → i ≤ length rs
+    → take (i + 1) rs ≡ take i rs ++ (r ∷ [])
+    → written (written output 0 (flat_map encoded (take i rs))) (i * 16) (encoded r)
+    ≡ written output 0 (flat_map encoded (take (i + 1) rs))
 written_next output rs r i h more =
     let front = flat_map encoded (take i rs) in
-    let long : length front ≡ i * 16 = length_records (take i rs) ∙ ap (λ n. n * 16) (length-take-le i rs h) in
+    let long : length front ≡ i * 16
+    = length_records (take i rs) ∙ ap (λ n. n * 16) (length-take-le i rs h) in
     written_behind output front (encoded r) (i * 16) long
-    ∙ ap (written output 0) (sym (ap (flat_map encoded) more ∙ flat_map-append encoded (take i rs) (r ∷ [])))
+    ∙ ap (written output 0)
+    (sym (ap (flat_map encoded) more ∙ flat_map-append encoded (take i rs) (r ∷ [])))
 
 module _ (processors : ℕ) (output : List ℕ) (rs : List Record) where
   -- the trailer behind all records is what the rule says
-  pub closed_behind : Ok tt ≡ admission output processors rs → (out : List ℕ) → out ≡ written output 0 (flat_map encoded rs) → length rs * 16 + 8 ≤ length out
+  pub closed_behind : Ok tt ≡ admission output processors rs → (out : List ℕ)
+      → out ≡ written output 0 (flat_map encoded rs) → length rs * 16 + 8 ≤ length out
       → (close_rule processors (length rs) out).output ≡ (write_rule output processors rs).output
   closed_behind admits out e room =
       let n = length rs in
       let trailer = trailer_bytes (n * 16) processors in
-      let done : Closed = record { answer = Ok (n * 16 + 8); output = written output 0 (trace_bytes processors rs) } in
-      let rule : write_rule output processors rs ≡ done = ap (all_written output processors rs) (sym admits) in
+      let done : Closed =
+      record { answer = Ok (n * 16 + 8); output = written output 0 (trace_bytes processors rs) } in
+      let rule : write_rule output processors rs ≡ done
+      = ap (all_written output processors rs) (sym admits) in
       ap (λ x. x.output) (close_fits processors n out room)
       ∙ ap (λ ys. written ys (n * 16) trailer) e
       ∙ written_behind output (flat_map encoded rs) trailer (n * 16) (length_records rs)

@@ -1,5 +1,5 @@
 -- A record and its sixteen bytes.
-use Rattle.std.specs.Prelude.{◌≡◌, ℕ, ◌+◌, ◌*◌, ◌/◌, ◌%◌, Bool, cond, ◌&&◌, List, [], ◌∷◌, ◌++◌, length, take, Some, None, Option, ◌==◌, slice_index}
+use Rattle.std.specs.Prelude.{◌≡◌, ℕ, ◌+◌, ◌*◌, ◌/◌, ◌%◌, Bool, if◌then◌else◌, ◌&&◌, List, [], ◌∷◌, ◌++◌, length, take, Some, None, Option, ◌==◌, slice_index}
 use Rattle.std.specs.Option.{option_map, unwrap_or}
 use Rattle.protocol.specs.declared.command.Command.{Command}
 use Rattle.protocol.specs.declared.command.Command.TheVariants.{R, W, DW, RI, RP, RB, LR, UW, U}
@@ -9,7 +9,8 @@ use Rattle.trace.specs.declared.record.Record.{Record}
 -- four bytes, the lowest first
 abbrev pub number_at : List ℕ → ℕ → ℕ
 number_at bytes at =
-    slice_index bytes at + slice_index bytes (at + 1) * 256 + slice_index bytes (at + 2) * 65536 + slice_index bytes (at + 3) * 16777216
+    slice_index bytes at + slice_index bytes (at + 1) * 256 + slice_index bytes (at + 2) * 65536
+    + slice_index bytes (at + 3) * 16777216
 
 abbrev pub number_bytes : ℕ → List ℕ
 number_bytes n = n % 256 ∷ (n / 256 % 256 ∷ (n / 65536 % 256 ∷ (n / 16777216 % 256 ∷ [])))
@@ -29,16 +30,25 @@ code_of U = 8
 abbrev pub data_of : Command → ℕ
 data_of command = unwrap_or (written_by command) 0
 
+-- the command with a code that writes no word, if there is one
 abbrev pub wordless_for : ℕ → Option Command
 wordless_for code =
-    cond (code == 0) (Some R) (cond (code == 3) (Some RI) (cond (code == 4) (Some RP) (cond (code == 5) (Some RB)
-    (cond (code == 6) (Some LR) (cond (code == 8) (Some U) None)))))
+    if code == 0 then Some R
+    else if code == 3 then Some RI
+    else if code == 4 then Some RP
+    else if code == 5 then Some RB
+    else if code == 6 then Some LR
+    else if code == 8 then Some U
+    else None
 
 -- the command with a code and data, if there is one
 abbrev pub command_for : ℕ → ℕ → Option Command
 command_for code word =
-    cond (code == 1) (Some (W word)) (cond (code == 2) (Some (DW word)) (cond (code == 7) (Some (UW word))
-    (cond (word == 0) (wordless_for code) None)))
+    if code == 1 then Some (W word)
+    else if code == 2 then Some (DW word)
+    else if code == 7 then Some (UW word)
+    else if word == 0 then wordless_for code
+    else None
 
 -- stamp, processor, code, two zero bytes, address, data
 abbrev pub encoded : Record → List ℕ
@@ -51,13 +61,19 @@ well_formed bytes = length bytes == 16 && slice_index bytes 6 == 0 && slice_inde
 
 abbrev pub decoded : List ℕ → Option Record
 decoded bytes =
-    cond (well_formed bytes)
-    (option_map (λ command. record {
+    if well_formed bytes
+    then option_map
+    (λ command. record {
       stamp = number_at bytes 0;
-      request = record { processor = slice_index bytes 4; command = command; address = number_at bytes 8 };
+      request =
+          record {
+            processor = slice_index bytes 4;
+            command = command;
+            address = number_at bytes 8;
+          };
     })
-    (command_for (slice_index bytes 5) (number_at bytes 12)))
-    None
+    (command_for (slice_index bytes 5) (number_at bytes 12))
+    else None
 
 -- the first record of some bytes, and the bytes behind it
 abbrev pub Takes : List ℕ → Option Record → List ℕ → Type 0

@@ -1,5 +1,5 @@
 -- The trace that bytes are: a note, records, and a trailer of eight bytes.
-use Rattle.std.specs.Prelude.{ℕ, zero, suc, ◌+◌, ◌-◌, ◌*◌, ◌%◌, Bool, cond, ◌&&◌, List, [], ◌∷◌, length, take, drop, Some, None, Ok, Err, Option, Result, ◌==◌, nat_le, nat_lt, slice_index}
+use Rattle.std.specs.Prelude.{ℕ, zero, suc, ◌+◌, ◌-◌, ◌*◌, ◌%◌, Bool, if◌then◌else◌, ◌&&◌, List, [], ◌∷◌, length, take, drop, Some, None, Ok, Err, Option, Result, ◌==◌, nat_le, nat_lt, slice_index}
 use Rattle.std.specs.Option.{unwrap_or}
 use Rattle.protocol.specs.declared.refusal.Refusal.{Refusal}
 use Rattle.protocol.specs.declared.refusal.Refusal.TheVariants as refusal
@@ -12,17 +12,21 @@ use Rattle.trace.specs.Sizes.{records_in}
 -- whole records that the bytes before the trailer hold, at most 1,048,576, for 1 to 8 processors
 abbrev pub lawful : ℕ → Trailer → Bool
 lawful room t =
-    (t.size % 16 == 0) && nat_le t.size 16777216 && nat_le t.size room && nat_le 1 t.processors && nat_le t.processors 8
+    (t.size % 16 == 0) && nat_le t.size 16777216 && nat_le t.size room
+    && nat_le 1 t.processors && nat_le t.processors 8
 
 -- size of the records, version 1, processors, two zero bytes
 abbrev pub trailer_at : List ℕ → ℕ → Option Trailer
 trailer_at bytes end =
-    let given : Trailer = record { size = number_at bytes end; processors = slice_index bytes (end + 5) } in
-    cond (slice_index bytes (end + 4) == 1 && slice_index bytes (end + 6) == 0 && slice_index bytes (end + 7) == 0 && lawful end given)
-    (Some given) None
+    let given : Trailer =
+    record { size = number_at bytes end; processors = slice_index bytes (end + 5) } in
+    if slice_index bytes (end + 4) == 1 && slice_index bytes (end + 6) == 0
+    && slice_index bytes (end + 7) == 0 && lawful end given
+    then Some given
+    else None
 
 abbrev pub trailer_of : List ℕ → Option Trailer
-trailer_of bytes = cond (nat_lt (length bytes) 8) None (trailer_at bytes (length bytes - 8))
+trailer_of bytes = if nat_lt (length bytes) 8 then None else trailer_at bytes (length bytes - 8)
 
 -- a record of one of the processors, not stamped before the one in front of it
 abbrev pub follows : ℕ → ℕ → Record → Bool
@@ -35,7 +39,7 @@ when_some (Some x) f other = f x
 
 abbrev pub lawful_record : ℕ → ℕ → List ℕ → Option Record
 lawful_record processors stamp bytes =
-    when_some (decoded bytes) (λ r. cond (follows processors stamp r) (Some r) None) None
+    when_some (decoded bytes) (λ r. if follows processors stamp r then Some r else None) None
 
 -- the index of the first of n records that breaks a rule, if one does
 abbrev pub wrong_from : ℕ → ℕ → ℕ → ℕ → List ℕ → Option ℕ
@@ -48,14 +52,17 @@ wrong_from processors stamp index (suc n) bytes =
 -- n records, one after another
 abbrev pub records_from : ℕ → List ℕ → List Record
 records_from zero bytes = []
-records_from (suc n) bytes = when_some (decoded (take 16 bytes)) (λ r. r ∷ records_from n (drop 16 bytes)) []
+records_from (suc n) bytes =
+    when_some (decoded (take 16 bytes)) (λ r. r ∷ records_from n (drop 16 bytes)) []
 
 abbrev pub is_of : ℕ → List ℕ → ℕ → Bool
 is_of processor bytes index = slice_index bytes (index * 16 + 4) == processor
 
 -- the first record of a processor from an index on, or the number of records where there is none
 abbrev pub next_of : ℕ → ℕ → List ℕ → ℕ
-next_of processor from bytes = unwrap_or (lowest_from (is_of processor bytes) from (records_in bytes - from)) (records_in bytes)
+next_of processor from bytes =
+    unwrap_or (lowest_from (is_of processor bytes) from (records_in bytes - from))
+    (records_in bytes)
 
 -- all the records that the bytes hold
 abbrev pub records_of : List ℕ → List Record

@@ -1,6 +1,6 @@
 -- Writing a trace into an output: opened, records put one after another, closed.
 use Prim.{Unit, tt}
-use Rattle.std.specs.Prelude.{◌≡◌, ℕ, ◌+◌, ◌-◌, ◌*◌, ◌≤◌, cond, ◌&&◌, List, [], ◌∷◌, ◌++◌, length, take, drop, Some, None, Ok, Err, Option, Result, nat_le, nat_lt, flat_map}
+use Rattle.std.specs.Prelude.{◌≡◌, ℕ, ◌+◌, ◌-◌, ◌*◌, ◌≤◌, if◌then◌else◌, ◌&&◌, List, [], ◌∷◌, ◌++◌, length, take, drop, Some, None, Ok, Err, Option, Result, nat_le, nat_lt, flat_map}
 use Rattle.protocol.specs.declared.refusal.Refusal.{Refusal}
 use Rattle.protocol.specs.declared.refusal.Refusal.TheVariants as refusal
 use Rattle.trace.specs.declared.record.Record.{Record}
@@ -17,9 +17,9 @@ trailer_bytes size processors = number_bytes size ++ (1 ∷ (processors ∷ (0 �
 
 abbrev pub open_answer : List ℕ → ℕ → Result (Unit {0}) Refusal
 open_answer output processors =
-    cond (nat_le 1 processors && nat_le processors 8)
-    (cond (nat_le 8 (length output)) (Ok tt) (Err refusal.Output))
-    (Err refusal.Trailer)
+    if nat_le 1 processors && nat_le processors 8
+    then (if nat_le 8 (length output) then Ok tt else Err refusal.Output)
+    else Err refusal.Trailer
 
 -- what a put answers, the number of records and the last stamp behind it, and the output
 pub record Put : Type 0 where
@@ -31,15 +31,20 @@ pub record Put : Type 0 where
 -- why a record is not put into an output of a length, if it is not
 abbrev pub put_refusal : ℕ → ℕ → ℕ → ℕ → Record → Option Refusal
 put_refusal processors count stamp long r =
-    cond (follows processors stamp r && nat_lt count 1048576)
-    (cond (nat_le (count * 16 + 24) long) None (Some refusal.Output))
-    (Some (refusal.Record count))
+    if follows processors stamp r && nat_lt count 1048576
+    then (if nat_le (count * 16 + 24) long then None else Some refusal.Output)
+    else Some (refusal.Record count)
 
 abbrev pub put_rule : ℕ → ℕ → ℕ → List ℕ → Record → Put
 put_rule processors count stamp output r =
     when_some (put_refusal processors count stamp (length output) r)
     (λ e. record { answer = Err e; count = count; stamp = stamp; output = output })
-    (record { answer = Ok tt; count = count + 1; stamp = r.stamp; output = written output (count * 16) (encoded r) })
+    (record {
+      answer = Ok tt;
+      count = count + 1;
+      stamp = r.stamp;
+      output = written output (count * 16) (encoded r);
+    })
 
 -- what closing answers, and the output
 pub record Closed : Type 0 where
@@ -48,14 +53,19 @@ pub record Closed : Type 0 where
 
 abbrev pub close_rule : ℕ → ℕ → List ℕ → Closed
 close_rule processors count output =
-    cond (nat_lt (length output) (count * 16 + 8)) (record { answer = Err refusal.Output; output = output })
-    (record { answer = Ok (count * 16 + 8); output = written output (count * 16) (trailer_bytes (count * 16) processors) })
+    if nat_lt (length output) (count * 16 + 8)
+    then record { answer = Err refusal.Output; output = output }
+    else record {
+      answer = Ok (count * 16 + 8);
+      output = written output (count * 16) (trailer_bytes (count * 16) processors);
+    }
 
 abbrev pub last_stamp : ℕ → List Record → ℕ
 last_stamp stamp [] = stamp
 last_stamp stamp (r ∷ rs) = last_stamp r.stamp rs
 
--- the output starts with so many lawful records, which are these, the last with this stamp, and has room for the trailer
+-- the output starts with so many lawful records, which are these, the last with this stamp, and has
+-- room for the trailer
 pub record Holds (processors count stamp : ℕ) (output : List ℕ) (rs : List Record) : Type 0 where
   pub sound : wrong_from processors 0 0 count output ≡ None
   pub same : records_from count output ≡ rs
@@ -67,8 +77,9 @@ abbrev copied : List ℕ → List ℕ → Result Content Refusal → Closed
 copied input output (Err e) = record { answer = Err e; output = output }
 copied input output (Ok trace) =
     let long = length trace.records * 16 + 8 in
-    cond (nat_lt (length output) long) (record { answer = Err refusal.Output; output = output })
-    (record { answer = Ok long; output = written output 0 (drop (length input - long) input) })
+    if nat_lt (length output) long
+    then record { answer = Err refusal.Output; output = output }
+    else record { answer = Ok long; output = written output 0 (drop (length input - long) input) }
 
 abbrev pub copy_rule : List ℕ → List ℕ → Closed
 copy_rule input output = copied input output (trace_of input)
@@ -77,7 +88,9 @@ copy_rule input output = copied input output (trace_of input)
 abbrev pub first_refusal : ℕ → ℕ → ℕ → ℕ → List Record → Option Refusal
 first_refusal processors count stamp long [] = None
 first_refusal processors count stamp long (r ∷ rs) =
-    when_some (put_refusal processors count stamp long r) (λ e. Some e) (first_refusal processors (count + 1) r.stamp long rs)
+    when_some (put_refusal processors count stamp long r)
+    (λ e. Some e)
+    (first_refusal processors (count + 1) r.stamp long rs)
 
 -- the records behind one another, and the trailer
 abbrev pub trace_bytes : ℕ → List Record → List ℕ
@@ -86,15 +99,20 @@ trace_bytes processors rs = flat_map encoded rs ++ trailer_bytes (length rs * 16
 -- what opening and putting all records answer, the first refusal or none
 abbrev pub admitted : ℕ → ℕ → List Record → Result (Unit {0}) Refusal → Result (Unit {0}) Refusal
 admitted processors long rs (Err e) = Err e
-admitted processors long rs (Ok opened) = when_some (first_refusal processors 0 0 long rs) (λ e. Err e) (Ok tt)
+admitted processors long rs (Ok opened) =
+    when_some (first_refusal processors 0 0 long rs) (λ e. Err e) (Ok tt)
 
 abbrev pub admission : List ℕ → ℕ → List Record → Result (Unit {0}) Refusal
-admission output processors rs = admitted processors (length output) rs (open_answer output processors)
+admission output processors rs =
+    admitted processors (length output) rs (open_answer output processors)
 
 abbrev pub all_written : List ℕ → ℕ → List Record → Result (Unit {0}) Refusal → Closed
 all_written output processors rs (Err e) = record { answer = Err e; output = output }
 all_written output processors rs (Ok done) =
-    record { answer = Ok (length rs * 16 + 8); output = written output 0 (trace_bytes processors rs) }
+    record {
+      answer = Ok (length rs * 16 + 8);
+      output = written output 0 (trace_bytes processors rs);
+    }
 
 -- what writing records as a trace answers, and the output
 abbrev pub write_rule : List ℕ → ℕ → List Record → Closed

@@ -8,7 +8,11 @@ use crate::trailer::TRAILER_SIZE;
 use crate::writer::Writer;
 use protocol::refusal::Refusal;
 
-// The records of a trace behind no note. Refuses what is no trace with 12 or 13, then an output too short for it with 14.
+/// Copies the trace in the input, without its note, to the start of the output. The answer is the
+/// copy's length in bytes, which is 16 x records + 8.
+///
+/// Refuses with 12 or 13 an input that is no trace, then with 14 an output that is too short; the
+/// output is then as it was.
 pub fn copy_trace(input: &[u8], output: &mut [u8]) -> Result<usize, Refusal>
     ensures answer { result ≡ (copy_rule input.now output.old).answer }
     ensures output { output.new ≡ (copy_rule input.now output.old).output }

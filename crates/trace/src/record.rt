@@ -4,10 +4,13 @@ ghost use Rattle.trace.specs.Records.{code_of, data_of, command_for, encoded, de
 
 use protocol::command::{Command, Request};
 
+/// The bytes of a record.
 pub const RECORD_SIZE: usize = 16;
 
+/// A record of a trace: a request, and when it was made.
 #[derive(Clone, Copy)]
 pub struct Record {
+    /// The stamps of a trace never fall.
     pub stamp: u32,
     pub request: Request,
 }
@@ -30,8 +33,7 @@ fn command_of(code: u8, word: u32) -> Option<Command>
     }
 }
 
-// No From or TryFrom: the codes are this format's, which the crate of Command does not know, and here Command and u8 are
-// both of other crates.
+// No From or TryFrom: the codes are this format's, and Command and u8 are both of other crates.
 fn code_of(command: Command) -> u8
     ensures { result ≡ code_of command }
 {
@@ -55,8 +57,11 @@ fn data_of(command: Command) -> u32
     command.written().unwrap_or(0)
 }
 
-// Stamp, processor, code, two zero bytes, address, data.
-// No From, nor TryFrom for decode: `encode(next)` says more at a call, and an error could tell only that there is no record.
+// No From, nor TryFrom for `decode`: `encode(next)` says more at a call, and an error could tell
+// only that there is no record.
+/// The sixteen bytes of a record: stamp (4), processor (1), code of the command (1), two zero
+/// bytes, address (4), data (4). Each number stands lowest byte first. Data is the word that the
+/// command writes, 0 where it writes none.
 pub fn encode(put: Record) -> [u8; 16]
     ensures value { result ≡ encoded put }
     ensures back { decoded result ≡ Some put }
@@ -75,7 +80,7 @@ pub fn encode(put: Record) -> [u8; 16]
     ]
 }
 
-// The record that sixteen bytes are, if they are one. See `encode` for why it is a function.
+/// The record that these bytes are, if they are the sixteen bytes of one.
 pub fn decode(bytes: &[u8]) -> Option<Record>
     ensures value { result ≡ decoded bytes.now }
     ensures back { IfSome result (λ got. encoded got ≡ bytes.now) }

@@ -1,10 +1,11 @@
-// The records of a trace, one after another.
+// The iterator over the records of a trace.
 ghost use Rattle.std.specs.Iterator.{at_most};
 ghost use Rattle.trace.specs.Sizes.{records_in};
 ghost use Rattle.trace.specs.Records.{Takes};
 
 use crate::record::{RECORD_SIZE, Record, decode};
 
+/// The records of a trace, one after another. It ends where the next sixteen bytes are no record.
 #[derive(Drop)]
 pub struct Records<'a> {
     pub(crate) bytes: &'a [u8],

@@ -12,7 +12,8 @@ use crate::trailer::Trailer;
 pub use crate::trailer::{MOST_RECORDS, TRAILER_SIZE, VERSION};
 use protocol::refusal::Refusal;
 
-// The bytes as they were lent, since the contracts speak of them; `whole` says that they are records.
+// The bytes are as they were lent, since the contracts speak of them.
+/// A trace that was read: lawful records, at most 1,048,576, for 1 to 8 processors.
 #[derive(Clone, Copy)]
 pub struct Trace<'a> {
     records: &'a [u8],
@@ -52,12 +53,19 @@ fn first_wrong(records: &[u8], processors: u8) -> Option<u32>
 }
 
 impl<'a> Trace<'a> {
-    // The trace that the bytes are. Refuses a wrong trailer with 12 and the first wrong record with 13.
+    /// The trace that the bytes are: a note of any length, the records of 16 bytes each, and the
+    /// trailer in the last 8 bytes.
+    ///
+    /// Refuses with 12 fewer than 8 bytes or a wrong trailer, then with 13 and the index from 0 of
+    /// the first wrong record.
     pub fn read(bytes: &'a [u8]) -> Result<Trace<'a>, Refusal>
-        ensures value { result_map_both (λ t. content_of t.processors t.records.now) (λ refusal. refusal) result ≡ trace_of bytes.now }
-        ensures last_bytes { IfOk result (λ t. t.records.now ++ trailer_bytes (length t.records.now) t.processors
+        ensures value { result_map_both (λ t. content_of t.processors t.records.now)
+            (λ refusal. refusal) result ≡ trace_of bytes.now }
+        ensures last_bytes { IfOk result (λ t.
+            t.records.now ++ trailer_bytes (length t.records.now) t.processors
             ≡ drop (length bytes.now - (length t.records.now + 8)) bytes.now) }
-        ensures sound { IfOk result (λ t. wrong_from t.processors 0 0 (records_in t.records.now) t.records.now ≡ None) }
+        ensures sound { IfOk result (λ t.
+            wrong_from t.processors 0 0 (records_in t.records.now) t.records.now ≡ None) }
         ensures whole { IfOk result (λ t. length t.records.now ≡ records_in t.records.now * 16) }
         ensures few { IfOk result (λ t. records_in t.records.now ≤ 1048576) }
         ensures lawful { IfOk result (λ t. (1 ≤ t.processors) × (t.processors ≤ 8)) }
@@ -74,28 +82,31 @@ impl<'a> Trace<'a> {
         }
     }
 
+    /// The processors that the trace is for, 1 to 8.
     pub fn processors(&self) -> u8
         ensures { result ≡ self.now.processors }
     {
         self.processors
     }
 
-    // The number of records.
+    /// The number of records.
     pub fn count(&self) -> usize
         ensures { result ≡ records_in self.now.records.now }
     {
         self.records.len() / RECORD_SIZE
     }
 
-    // The record at an index from 0, if there is one.
+    /// The record at an index from 0, if there is one.
     pub fn record(&self, index: usize) -> Option<Record>
         ensures value { result ≡ decoded (take 16 (drop (index * 16) self.now.records.now)) }
-        ensures back { IfSome result (λ got. encoded got ≡ take 16 (drop (index * 16) self.now.records.now)) }
+        ensures back { IfSome result (λ got.
+            encoded got ≡ take 16 (drop (index * 16) self.now.records.now)) }
     {
         let (records, _) = self.records.as_chunks::<RECORD_SIZE>();
         decode(records.get(index)?)
     }
 
+    /// The records in order.
     pub fn records(&self) -> Records<'a>
         ensures { result.bytes.now ≡ self.now.records.now }
     {
@@ -104,8 +115,9 @@ impl<'a> Trace<'a> {
         }
     }
 
-    // The first record of the processor from an index on, or the number of records where there is none: the place where the
-    // search ends, which a run compares with the others.
+    // No `Option`: a run compares the index with those of the other processors.
+    /// The index of the processor's first record from an index on, or the number of records where
+    /// there is none.
     pub fn next_of(&self, processor: u8, from: usize) -> usize
         ensures value { result ≡ next_of processor from self.now.records.now }
         ensures later { from ≤ records_in self.now.records.now → from ≤ result }

@@ -5,16 +5,21 @@ ghost use Rattle.trace.specs.Writing.{trailer_bytes};
 
 use crate::record::RECORD_SIZE;
 
+/// The bytes of a trailer.
 pub const TRAILER_SIZE: usize = 8;
 
+/// The most records of a trace.
 pub const MOST_RECORDS: usize = 1_048_576;
 
+/// The one version of the format.
 pub const VERSION: u8 = 1;
 
-// How many bytes the records take, and how many processors they are for.
+/// The trailer of a trace.
 #[derive(Clone, Copy)]
 pub struct Trailer {
+    /// The bytes that the records take.
     pub size: u32,
+    /// The processors that the trace is for.
     pub processors: u8,
 }
 
@@ -26,7 +31,7 @@ pub(crate) fn may_serve(processors: u8) -> bool
 }
 
 impl Trailer {
-    // Whether it is one for a trace with so many bytes before it.
+    // Whether it is one for a trace with `room` bytes before it.
     fn is_lawful(self, room: usize) -> bool
         ensures { result ≡ lawful room self }
     {
@@ -37,10 +42,13 @@ impl Trailer {
             && may_serve(self.processors)
     }
 
-    // Size, version, processors, two zero bytes. Functions and no conversions, as `encode` and `decode` of a record.
+    // Functions and no conversions, as `encode` and `decode` of a record.
+    /// The trailer in the last 8 bytes, if they are one: size (4, lowest byte first), version,
+    /// processors, two zero bytes.
     pub(crate) fn decode(bytes: &[u8]) -> Option<Trailer>
         ensures value { result ≡ trailer_of bytes.now }
-        ensures back { IfSome result (λ t. trailer_bytes t.size t.processors ≡ drop (length bytes.now - 8) bytes.now) }
+        ensures back { IfSome result (λ t.
+            trailer_bytes t.size t.processors ≡ drop (length bytes.now - 8) bytes.now) }
         ensures held { IfSome result (λ t. t.size + 8 ≤ length bytes.now) }
         ensures few { IfSome result (λ t. t.size ≤ 16777216) }
         ensures whole { IfSome result (λ t. t.size % 16 ≡ 0) }
@@ -55,6 +63,7 @@ impl Trailer {
         trailer.is_lawful(front.len()).then_some(trailer)
     }
 
+    /// The 8 bytes of the trailer.
     pub(crate) fn encode(self) -> [u8; 8]
         ensures { result ≡ trailer_bytes self.size self.processors }
     {

@@ -26,19 +26,30 @@ is_modified line = modified line.state
 abbrev pub one_modified : Line → ℕ
 one_modified line = cond (is_modified line) 1 0
 
-one_state : (s : State) → cond (eqb (column_for s) 0) 1 0 + cond (eqb (column_for s) 2) 1 0 ≡ cond {A = ℕ} (modified s) 1 0
+one_state : (s : State) → cond (eqb (column_for s) 0) 1 0 + cond (eqb (column_for s) 2) 1 0
+    ≡ cond {A = ℕ} (modified s) 1 0
 one_state EM = refl
 one_state EC = refl
 one_state SM = refl
 one_state S = refl
 one_state I = refl
 
-two_states : (lines : List Line) → count_by (stands EM) lines + count_by (stands SM) lines ≡ count_by is_modified lines
+two_states : (lines : List Line)
+    → count_by (stands EM) lines + count_by (stands SM) lines ≡ count_by is_modified lines
 two_states [] = refl
 two_states (line ∷ lines) =
-    omega (arith, two_states lines, one_state line.state, sum_by-cons (λ x. cond (stands EM x) 1 0) line lines, sum_by-cons (λ x. cond (stands SM x) 1 0) line lines, sum_by-cons one_modified line lines)
+    omega (
+      arith,
+      two_states lines,
+      one_state line.state,
+      sum_by-cons (λ x. cond (stands EM x) 1 0) line
+          lines,
+      sum_by-cons (λ x. cond (stands SM x) 1 0) line lines,
+      sum_by-cons one_modified line lines,
+    )
 
-in_row : (lines : List Line) → get_or (row_of lines) 0 0 + get_or (row_of lines) 2 0 ≡ count_by is_modified lines
+in_row : (lines : List Line) → get_or (row_of lines) 0 0 + get_or (row_of lines) 2 0
+    ≡ count_by is_modified lines
 unfolding count_in
 in_row lines = two_states lines
 
@@ -52,7 +63,9 @@ module _ (m : Measures) (lines : List Line) where
       mul-le-mul_right m.ways (omega (arith, more))
 
   -- the rows of processors that the geometry has count the lines up to the next processor's first
-  rows_count : (n p : ℕ) → p + n ≤ m.processors → modified_in (rows_from m lines p n) ≡ count_by is_modified (take (first (p + n) - first p) (drop (first p) lines))
+  rows_count : (n p : ℕ) → p + n ≤ m.processors
+      → modified_in (rows_from m lines p n)
+      ≡ count_by is_modified (take (first (p + n) - first p) (drop (first p) lines))
   unfolding row_at
   rows_count zero p h =
       let same : p + 0 ≡ p = omega arith in
@@ -66,14 +79,23 @@ module _ (m : Measures) (lines : List Line) where
       let y = first (p + 1 + n) - first (p + 1) in
       let up = rises p (p + 1) (omega arith) in
       let on = rises (p + 1) (p + 1 + n) (omega arith) in
-      let all : x + y ≡ first (p + suc n) - first p = (let sum : x + y ≡ first (p + 1 + n) - first p = omega (arith, up, on) in sum ∙ ap (λ q. first q - first p) same) in
+      let all : x + y ≡ first (p + suc n) - first p =
+      (let sum : x + y ≡ first (p + 1 + n) - first p =
+      omega (arith, up, on) in sum ∙ ap (λ q. first q - first p) same) in
       let next : first p + x ≡ first (p + 1) = omega (arith, up) in
-      let behind : drop x (drop (first p) lines) ≡ drop (first (p + 1)) lines = drop-drop x (first p) lines ∙ ap (λ k. drop k lines) next in
-      let whole : take (first (p + suc n) - first p) (drop (first p) lines) ≡ cache_of m lines p ++ take y (drop (first (p + 1)) lines)
-      = ap (λ k. take k (drop (first p) lines)) (sym all) ∙ take-add x y (drop (first p) lines) ∙ ap (λ ls. cache_of m lines p ++ take y ls) behind in
-      let row : get_or (row_at m lines p) 0 0 + get_or (row_at m lines p) 2 0 ≡ count_by is_modified (cache_of m lines p)
-      = ap (λ b. get_or (cond b (row_of (cache_of m lines p)) (replicate 5 0)) 0 0 + get_or (cond b (row_of (cache_of m lines p)) (replicate 5 0)) 2 0) here ∙ in_row (cache_of m lines p) in
-      (λ k. row k + rest k) ∙ sym (ap (count_by is_modified) whole ∙ sum_by-append one_modified (cache_of m lines p) (take y (drop (first (p + 1)) lines)))
+      let behind : drop x (drop (first p) lines) ≡ drop (first (p + 1)) lines =
+      drop-drop x (first p) lines ∙ ap (λ k. drop k lines) next in
+      let whole : take (first (p + suc n) - first p) (drop (first p) lines)
+      ≡ cache_of m lines p ++ take y (drop (first (p + 1)) lines)
+      = ap (λ k. take k (drop (first p) lines)) (sym all) ∙ take-add x y (drop (first p) lines)
+      ∙ ap (λ ls. cache_of m lines p ++ take y ls) behind in
+      let row : get_or (row_at m lines p) 0 0 + get_or (row_at m lines p) 2 0
+      ≡ count_by is_modified (cache_of m lines p)
+      = ap (λ b. get_or (cond b (row_of (cache_of m lines p)) (replicate 5 0)) 0 0 + get_or
+      (cond b (row_of (cache_of m lines p)) (replicate 5 0)) 2 0) here ∙ in_row (cache_of m lines p) in
+      (λ k. row k + rest k) ∙ sym
+      (ap (count_by is_modified) whole
+      ∙ sum_by-append one_modified (cache_of m lines p) (take y (drop (first (p + 1)) lines)))
 
   -- rows of other processors count nothing
   no_rows : (n p : ℕ) → m.processors ≤ p → modified_in (rows_from m lines p n) ≡ 0
@@ -83,29 +105,39 @@ module _ (m : Measures) (lines : List Line) where
       let beyond : ltb p m.processors ≡ false = grind (arith, nat_tests) in
       let rest = no_rows n (p + 1) (omega (arith, h)) in
       let row : get_or (row_at m lines p) 0 0 + get_or (row_at m lines p) 2 0 ≡ 0
-      = ap (λ b. get_or (cond b (row_of (cache_of m lines p)) (replicate 5 0)) 0 0 + get_or (cond b (row_of (cache_of m lines p)) (replicate 5 0)) 2 0) beyond in
+      = ap (λ b. get_or (cond b (row_of (cache_of m lines p)) (replicate 5 0)) 0 0 + get_or
+      (cond b (row_of (cache_of m lines p)) (replicate 5 0)) 2 0) beyond in
       (λ k. row k + rest k)
 
-  rows_more : (a b p : ℕ) → modified_in (rows_from m lines p (a + b)) ≡ modified_in (rows_from m lines p a) + modified_in (rows_from m lines (p + a) b)
+  rows_more : (a b p : ℕ) → modified_in (rows_from m lines p (a + b))
+      ≡ modified_in (rows_from m lines p a) + modified_in (rows_from m lines (p + a) b)
   rows_more zero b p =
       let none : zero + b ≡ b = omega arith in
       let same : p ≡ p + 0 = omega arith in
-      ap (λ k. modified_in (rows_from m lines p k)) none ∙ ap (λ q. modified_in (rows_from m lines q b)) same ∙ omega arith
+      ap (λ k. modified_in (rows_from m lines p k)) none
+      ∙ ap (λ q. modified_in (rows_from m lines q b)) same ∙ omega arith
   rows_more (suc a) b p =
       let more : suc a + b ≡ suc (a + b) = omega arith in
       let same : p + 1 + a ≡ p + suc a = omega arith in
       let rest = rows_more a b (p + 1) in
-      let moved : modified_in (rows_from m lines (p + 1 + a) b) ≡ modified_in (rows_from m lines (p + suc a) b) = ap (λ q. modified_in (rows_from m lines q b)) same in
+      let moved : modified_in (rows_from m lines (p + 1 + a) b)
+      ≡ modified_in (rows_from m lines (p + suc a) b) =
+      ap (λ q. modified_in (rows_from m lines q b)) same in
       let row = get_or (row_at m lines p) 0 0 + get_or (row_at m lines p) 2 0 in
       ap (λ k. modified_in (rows_from m lines p k)) more ∙ omega (arith, rest, moved)
 
-  pub census_counts : m.processors ≤ 8 → 1 ≤ m.columns → length lines ≡ line_count m → modified_in (census_of m lines) ≡ count_by is_modified lines
+  pub census_counts : m.processors ≤ 8 → 1 ≤ m.columns → length lines ≡ line_count m
+      → modified_in (census_of m lines) ≡ count_by is_modified lines
   census_counts few some fit =
       let n = m.processors in
       let split : 8 ≡ n + (8 - n) = omega (arith, few) in
       let column : 0 % m.columns ≡ 0 = mod-eq_of_lt some in
-      let start : first 0 ≡ 0 = ap (λ k. (0 * m.columns + k) * m.ways) column ∙ ap (λ k. (k + 0) * m.ways) (zero-mul m.columns) ∙ zero-mul m.ways in
-      let reach : first (0 + n) ≡ length lines = ap (λ k. ((0 + n) * m.columns + k) * m.ways) column ∙ ap (λ k. (k * m.columns + 0) * m.ways) (zero-add n)
+      let start : first 0 ≡ 0 =
+      ap (λ k. (0 * m.columns + k) * m.ways) column ∙ ap (λ k. (k + 0) * m.ways) (zero-mul m.columns)
+      ∙ zero-mul m.ways in
+      let reach : first (0 + n) ≡ length lines =
+      ap (λ k. ((0 + n) * m.columns + k) * m.ways) column
+      ∙ ap (λ k. (k * m.columns + 0) * m.ways) (zero-add n)
       ∙ ap (λ k. k * m.ways) (add-zero (n * m.columns)) ∙ sym fit in
       let all : first (0 + n) - first 0 ≡ length lines = (λ k. reach k - start k) ∙ omega arith in
       ap (λ k. modified_in (rows_from m lines 0 k)) split ∙ rows_more n (8 - n) 0

@@ -17,18 +17,22 @@ abbrev pub onto : List Line → Drain → Drain
 onto front d = record { answer = d.answer; lines = front ++ d.lines; memory = d.memory }
 
 -- a finished drain writes the modified lines, and no others
-back_one : (mem : Mem) (line : Line) (k : ℕ) → written_back mem line ≡ Ok k → k ≡ cond (is_modified line) 1 0
+back_one : (mem : Mem) (line : Line) (k : ℕ) → written_back mem line ≡ Ok k
+    → k ≡ cond (is_modified line) 1 0
 back_one mem line k e = by_state (modified line.state) (grants mem line.block) e
   where
-    by_state : (b g : Bool) → ◌≡◌ {A = Result ℕ Refusal} (cond b (cond g (Ok 1) (Err (Memory line.block Write))) (Ok 0)) (Ok k) → k ≡ cond b 1 0
+    by_state : (b g : Bool) → ◌≡◌ {A = Result ℕ Refusal}
+        (cond b (cond g (Ok 1) (Err (Memory line.block Write))) (Ok 0)) (Ok k) → k ≡ cond b 1 0
     by_state false g h = ap (λ r. result_unwrap_or r 0) (sym h)
     by_state true true h = ap (λ r. result_unwrap_or r 0) (sym h)
     by_state true false h = cc
 
 module _ (blocks n : ℕ) (line : Line) (lines : List Line) (mem : Mem)
-    (rest : (b : ℕ) → Ok n ≡ (drain_from b lines (memory_back mem line)).answer → n ≡ b + count_by is_modified lines) where
+    (rest : (b : ℕ) → Ok n ≡ (drain_from b lines (memory_back mem line)).answer
+    → n ≡ b + count_by is_modified lines) where
   by_answer : (r : Result ℕ Refusal) → written_back mem line ≡ r
-      → Ok n ≡ (unless_stopped r (record { answer = Ok blocks; lines = line ∷ lines; memory = mem }) (λ k. behind blank_line (drain_from (blocks + k) lines (memory_back mem line)))).answer
+      → Ok n ≡ (unless_stopped r (record { answer = Ok blocks; lines = line ∷ lines; memory = mem })
+      (λ k. behind blank_line (drain_from (blocks + k) lines (memory_back mem line)))).answer
       → n ≡ blocks + count_by is_modified (line ∷ lines)
   by_answer (Err e) back h = cc
   by_answer (Ok k) back h =
@@ -36,7 +40,10 @@ module _ (blocks n : ℕ) (line : Line) (lines : List Line) (mem : Mem)
       let all = rest (blocks + k) h in
       omega (arith, one, all, sum_by-cons one_modified line lines)
 
-pub drain_count : (lines : List Line) (blocks n : ℕ) (mem : Mem) → Ok n ≡ (drain_from blocks lines mem).answer → n ≡ blocks + count_by is_modified lines
-drain_count [] blocks n mem e = let same : n ≡ blocks = ap (λ r. result_unwrap_or r 0) e in omega (arith, same)
+pub drain_count : (lines : List Line) (blocks n : ℕ) (mem : Mem)
+    → Ok n ≡ (drain_from blocks lines mem).answer → n ≡ blocks + count_by is_modified lines
+drain_count [] blocks n mem e =
+    let same : n ≡ blocks = ap (λ r. result_unwrap_or r 0) e in omega (arith, same)
 drain_count (line ∷ lines) blocks n mem e =
-    by_answer blocks n line lines mem (λ b. drain_count lines b n (memory_back mem line)) (written_back mem line) refl e
+    by_answer blocks n line lines mem (λ b. drain_count lines b n (memory_back mem line))
+    (written_back mem line) refl e

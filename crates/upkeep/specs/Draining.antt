@@ -1,5 +1,5 @@
 -- The drain: each modified line is written back, and every line becomes I.
-use Rattle.std.specs.Prelude.{ℕ, ◌+◌, ◌*◌, cond, List, [], ◌∷◌, Ok, Err, Result}
+use Rattle.std.specs.Prelude.{ℕ, ◌+◌, ◌*◌, if◌then◌else◌, List, [], ◌∷◌, Ok, Err, Result}
 use Rattle.protocol.specs.declared.line.Line.{Line}
 use Rattle.protocol.specs.declared.measures.Measures.{Measures}
 use Rattle.protocol.specs.declared.refusal.Direction.TheVariants.{Write}
@@ -8,16 +8,19 @@ use Rattle.protocol.specs.declared.refusal.Refusal.TheVariants.{TableLength, Mem
 use Rattle.protocol.specs.Entries.{modified}
 use Rattle.protocol.specs.Lines.{blank_line}
 use Rattle.memory.specs.Meaning.{Mem, grants, written}
+use Rattle.cluster.specs.Board.{Board, Outcome, refusing}
 use Rattle.upkeep.specs.declared.drain.Drained.{Drained}
 use Rattle.upkeep.specs.Counting.{lines_fit}
 
 -- how many blocks a line gives to memory, or that memory refuses it
 abbrev pub written_back : Mem → Line → Result ℕ Refusal
 written_back mem line =
-    cond (modified line.state) (cond (grants mem line.block) (Ok 1) (Err (Memory line.block Write))) (Ok 0)
+    if modified line.state
+    then (if grants mem line.block then Ok 1 else Err (Memory line.block Write))
+    else Ok 0
 
 abbrev pub memory_back : Mem → Line → Mem
-memory_back mem line = cond (modified line.state) (written mem line.block line.words) mem
+memory_back mem line = if modified line.state then written mem line.block line.words else mem
 
 -- the blocks written, or why it stopped; and the lines and the memory then
 pub record Drain : Type 0 where
@@ -30,9 +33,10 @@ behind line d = record { answer = d.answer; lines = line ∷ d.lines; memory = d
 
 abbrev pub unless_stopped : Result ℕ Refusal → Drain → (ℕ → Drain) → Drain
 unless_stopped (Ok n) stopped on = on n
-unless_stopped (Err refusal) stopped on = record { answer = Err refusal; lines = stopped.lines; memory = stopped.memory }
+unless_stopped (Err refusal) stopped on =
+    record { answer = Err refusal; lines = stopped.lines; memory = stopped.memory }
 
--- through the lines in order; a refused write stops it there, and that line and all later ones stay as they were
+-- through the lines in order; a refused write stops it there, and that line and all later ones stay
 abbrev pub drain_from : ℕ → List Line → Mem → Drain
 drain_from blocks [] mem = record { answer = Ok blocks; lines = []; memory = mem }
 drain_from blocks (line ∷ lines) mem =
@@ -45,14 +49,12 @@ abbrev pub costed : Measures → Result ℕ Refusal → Result Drained Refusal
 costed m (Ok blocks) = Ok (record { blocks = blocks; cycles = blocks * m.costs.swap_out })
 costed m (Err refusal) = Err refusal
 
-pub record DrainOutcome : Type 0 where
-  pub answer : Result Drained Refusal
-  pub lines : List Line
-  pub memory : Mem
-
-unfoldable pub drain_rule : Measures → List Line → Mem → DrainOutcome
-drain_rule m lines mem =
-    let d = drain_from 0 lines mem in
-    cond (lines_fit m lines)
-    (record { answer = costed m d.answer; lines = d.lines; memory = d.memory })
-    (record { answer = Err TableLength; lines = lines; memory = mem })
+unfoldable pub drain_rule : Measures → Board → Outcome Drained
+drain_rule m b =
+    let d = drain_from 0 b.lines b.memory in
+    if lines_fit m b.lines
+    then record {
+      answer = costed m d.answer;
+      board = record b { lines = d.lines; memory = d.memory };
+    }
+    else refusing b TableLength

@@ -1,7 +1,11 @@
 // How many lines of each processor are in each state.
-ghost use Rattle.std.specs.Prelude.{◌≡◌, ◌≤◌, length, if◌then◌else◌, Ok, Err};
+ghost use Rattle.std.specs.Prelude.{◌≡◌, ◌≤◌, List, length};
+ghost use Rattle.std.specs.Result.{result_map_both, result_unwrap_or};
+ghost use Rattle.protocol.specs.declared.lock.LockEntry.{LockEntry};
 ghost use Rattle.protocol.specs.Places.{line_count};
-ghost use Rattle.upkeep.specs.Counting.{count_in, row_of, row_at, census_of, lines_fit};
+ghost use Rattle.memory.specs.Meaning.{Mem};
+ghost use Rattle.cluster.specs.Board.{board_of};
+ghost use Rattle.upkeep.specs.Counting.{count_in, row_of, row_at, census_of, census_rule};
 
 use cluster::cluster::Cluster;
 use protocol::geometry::Geometry;
@@ -17,7 +21,7 @@ fn count(lines: &[Line], state: State) -> u32
     lines.iter().filter(|line| line.state == state).count() as u32
 }
 
-// 8192 lines are the most that a geometry has. It is asked of lent slices, and a type for them would say it no shorter.
+// 8192 lines are the most that a geometry has.
 fn row(lines: &[Line]) -> [u32; 5]
     requires { length lines.now ≤ 8192 }
     ensures { result ≡ row_of lines.now }
@@ -56,10 +60,19 @@ fn table(geometry: &Geometry, lines: &[Line]) -> [[u32; 5]; 8]
     )
 }
 
-// Rows of EM, EC, SM, S and I, one for each processor. Refuses a table of wrong length with 2.
+/// Counts the lines of each processor by state: a row for each of eight processors, with its lines
+/// in EM, EC, SM, S and I; rows of processors that the geometry does not have are 0. Lock table and
+/// memory are not lent: they may be any. Refuses a line table of wrong length with 2; then the rows
+/// stay as they were.
 pub fn census(cluster: &Cluster, lines: &[Line], rows: &mut [[u32; 5]; 8]) -> Result<(), Refusal>
-    ensures answer { result ≡ (if lines_fit cluster.now.geometry.measures lines.now then Ok tt else Err Refusal.TableLength) }
-    ensures rows { rows.new ≡ (if lines_fit cluster.now.geometry.measures lines.now then census_of cluster.now.geometry.measures lines.now else rows.old) }
+    ensures answer { (locks : List LockEntry) (mem : Mem) →
+        let board = board_of cluster.now lines.now locks mem in
+        let counted = census_rule cluster.now.geometry.measures board in
+        result ≡ result_map_both (λ _. tt) (λ refusal. refusal) counted }
+    ensures rows { (locks : List LockEntry) (mem : Mem) →
+        let board = board_of cluster.now lines.now locks mem in
+        let counted = census_rule cluster.now.geometry.measures board in
+        rows.new ≡ result_unwrap_or counted rows.old }
 {
     cluster.check_lines(lines)?;
     let counted = table(&cluster.geometry(), lines);

@@ -10,8 +10,12 @@ use crate::measures::{Costs, Measures};
 use crate::refusal::Refusal;
 
 impl Geometry {
+    /// The geometry of these measures. Refuses measures outside their limits with 1 (`Geometry`): 1
+    /// to 8 processors, a power of two of columns up to 256, 1 to 4 ways, 1 to 4 lock entries,
+    /// costs of at most 1000 bus cycles.
     pub fn new(measures: Measures) -> Result<Geometry, Refusal>
-        ensures { measured result ≡ (if lawful measures then Ok measures else Err Refusal.Geometry) }
+        ensures { measured result
+            ≡ (if lawful measures then Ok measures else Err Refusal.Geometry) }
     {
         let costs = measures.costs;
         if !(1..=8).contains(&measures.processors)
@@ -33,7 +37,7 @@ impl Geometry {
         Ok(Geometry { measures })
     }
 
-    // The measures that a cluster has unless others are given.
+    /// The geometry of `Measures::STANDARD`, which a cluster has unless others are given.
     pub fn standard() -> Geometry
         ensures { result.measures ≡ with_columns 256 }
     {
@@ -42,6 +46,7 @@ impl Geometry {
         }
     }
 
+    /// The number of processors, 1 to 8.
     pub fn processors(&self) -> u8
         ensures value { result ≡ self.now.measures.processors }
         ensures bound { result ≤ 8 }
@@ -49,6 +54,7 @@ impl Geometry {
         self.measures.processors
     }
 
+    /// The number of lines of a column in one cache, 1 to 4.
     pub fn ways(&self) -> usize
         ensures value { result ≡ self.now.measures.ways }
         ensures some { 1 ≤ result }
@@ -57,6 +63,7 @@ impl Geometry {
         self.measures.ways
     }
 
+    /// The number of lock entries of each processor, 1 to 4.
     pub fn lock_entries(&self) -> usize
         ensures value { result ≡ self.now.measures.lock_entries }
         ensures bound { result ≤ 4 }
@@ -64,6 +71,7 @@ impl Geometry {
         self.measures.lock_entries
     }
 
+    /// The costs, in bus cycles.
     pub fn costs(&self) -> Costs
         ensures value { result ≡ self.now.measures.costs }
         ensures low { LowCosts result }
@@ -71,22 +79,30 @@ impl Geometry {
         self.measures.costs
     }
 
+    /// The length of the line table: processors x columns x ways.
     pub fn line_count(&self) -> usize
         ensures { result ≡ line_count self.now.measures }
     {
         self.measures.processors as usize * self.measures.columns * self.measures.ways
     }
 
+    /// The length of the lock table: processors x lock entries.
     pub fn lock_count(&self) -> usize
         ensures { result ≡ lock_count self.now.measures }
     {
         self.measures.processors as usize * self.measures.lock_entries
     }
 
-    // The lines that the block may stand in, in the processor's cache.
+    /// The places in the line table where the block may stand in the processor's cache: the ways of
+    /// its column, which is the block's number modulo the columns. Lines are ordered by processor,
+    /// then column, then way.
     pub fn window(&self, processor: u8, block: u32) -> Window
-        ensures value { result ≡ record { from = window_start self.now.measures processor block; count = self.now.measures.ways } }
-        ensures within { processor < self.now.measures.processors → result.from + result.count ≤ line_count self.now.measures }
+        ensures value { result ≡ record {
+          from = window_start self.now.measures processor block;
+          count = self.now.measures.ways;
+        } }
+        ensures within { processor < self.now.measures.processors
+            → result.from + result.count ≤ line_count self.now.measures }
     {
         let column = block as usize % self.measures.columns;
         Window {
@@ -95,10 +111,14 @@ impl Geometry {
         }
     }
 
-    // The processor's lock entries.
+    /// The places of the processor's entries in the lock table, which is ordered by processor.
     pub fn locks_of(&self, processor: u8) -> Window
-        ensures value { result ≡ record { from = locks_start self.now.measures processor; count = self.now.measures.lock_entries } }
-        ensures within { processor < self.now.measures.processors → result.from + result.count ≤ lock_count self.now.measures }
+        ensures value { result ≡ record {
+          from = locks_start self.now.measures processor;
+          count = self.now.measures.lock_entries;
+        } }
+        ensures within { processor < self.now.measures.processors
+            → result.from + result.count ≤ lock_count self.now.measures }
     {
         Window {
             from: processor as usize * self.measures.lock_entries,

@@ -7,10 +7,15 @@ pub loop-place-preserved : goal.loop-place-preserved
 loop-place-preserved g c =
     let at = c.loop-place in (
       length-set at.place-items _ _ ∙ at.invariant.0,
-      one_more c.args.base _ at.place-index at.rest at.place-items _ c.loop-place-test.true at.invariant.0 c.digit.ensures ∙ at.invariant.1,
+      one_more c.args.base _ at.place-index at.rest at.place-items _ c.loop-place-test.true
+          at.invariant.0 c.digit.ensures
+          ∙ at.invariant.1,
     )
 
 pub returns : goal.returns
 returns g c =
     let at = c.loop-place in
-    c.reverse.ensures.after ∙ no_more c.args.base _ at.place-index at.rest at.place-items c.loop-place-test.false at.invariant.0 ∙ at.invariant.1
+    c.reverse.ensures.after
+    ∙ no_more c.args.base _ at.place-index at.rest at.place-items c.loop-place-test.false
+    at.invariant.0
+    ∙ at.invariant.1

@@ -14,7 +14,9 @@ pub returns-then-output-count : goal.returns-then-output-count
 returns-then-output-count c =
     let t = c.in_ok-trace.trace in
     let out = c.args.output.now in
-    let rule = copy_short c.args.input.now out t.records.now t.processors c.in_ok-trace.ensures.value t.sound (omega (arith, c.count.ensures, c.if-output-count.true)) in
+    let rule =
+    copy_short c.args.input.now out t.records.now t.processors c.in_ok-trace.ensures.value t.sound
+    (omega (arith, c.count.ensures, c.if-output-count.true)) in
     record { answer = sym (ap (λ x. x.answer) rule); output = sym (ap (λ x. x.output) rule) }
 
 pub loop-record-init : goal.loop-record-init
@@ -23,7 +25,9 @@ loop-record-init c =
     let bytes = c.into_iter-record-iterator.result.bytes.now in
     let out = c.args.output.now in
     let start = c.in_ok-writer.ensures.start in
-    let same : bytes ≡ t.records.now = ap (λ x. x.bytes.now) c.into_iter-record-iterator.ensures.into_iter_gives ∙ c.records-record-items.ensures in
+    let same : bytes ≡ t.records.now
+    = ap (λ x. x.bytes.now) c.into_iter-record-iterator.ensures.into_iter_gives
+    ∙ c.records-record-items.ensures in
     let served = start.0 ∙ c.processors.ensures in (
       refl,
       omega (arith, start.1),
@@ -38,7 +42,9 @@ loop-record-preserved c =
     let i = w.count in
     let t = c.in_ok-trace.trace in
     let bytes = c.into_iter-record-iterator.result.bytes.now in
-    let same : bytes ≡ t.records.now = ap (λ x. x.bytes.now) c.into_iter-record-iterator.ensures.into_iter_gives ∙ c.records-record-items.ensures in
+    let same : bytes ≡ t.records.now
+    = ap (λ x. x.bytes.now) c.into_iter-record-iterator.ensures.into_iter_gives
+    ∙ c.records-record-items.ensures in
     let rest = c.loop-record.record-iterator.bytes.now in
     let left = c.next.new.self.bytes.now in
     let inv = c.loop-record.invariant in
@@ -48,7 +54,9 @@ loop-record-preserved c =
     let more = records_more rest (encoded r) left taken.1 refl in
     let all = inv.1 ∙ ap records_in same in
     let wide : length bytes ≡ length t.records.now = ap length same in
-    let done = put_taken w.processors w.stamp i (records_in t.records.now) rest left c.loop-record.output r inv.4 taken all t.few
+    let done =
+    put_taken w.processors w.stamp i (records_in t.records.now) rest left c.loop-record.output r
+    inv.4 taken all t.few
     (omega (arith, c.count.ensures, c.if-output-count.false, c.loop-record.auto.output)) in
     let put = c.in_ok-put.ensures in
     let count = put.count ∙ sym (ap (λ p. p.count) done) in
@@ -56,11 +64,15 @@ loop-record-preserved c =
     let next : i * 16 + 16 ≡ c.put.new.self.count * 16 = omega (arith, count) in (
       put.processors ∙ inv.0,
       omega (arith, count, more, inv.1),
-      sym (ap (drop 16) taken.1 ∙ drop_at (encoded r) left 16 refl) ∙ ap (drop 16) inv.2 ∙ drop-drop 16 (i * 16) bytes ∙ ap (λ k. drop k bytes) next,
+      sym (ap (drop 16) taken.1 ∙ drop_at (encoded r) left 16 refl) ∙ ap (drop 16) inv.2
+          ∙ drop-drop 16 (i * 16) bytes ∙ ap (λ k. drop k bytes) next,
       put.output ∙ sym (ap (λ p. p.output) done) ∙ ap (λ ys. written ys (i * 16) (encoded r)) inv.3
-          ∙ ap (written (written out 0 (take (i * 16) bytes)) (i * 16)) (sym (ap (take 16) taken.1 ∙ take_at (encoded r) left 16 refl) ∙ ap (take 16) inv.2)
-          ∙ written_more out bytes (i * 16) 16 (omega (arith, wide, t.whole, all)) ∙ ap (λ k. written out 0 (take k bytes)) next,
-      (λ j. wrong_from (put.processors j) (stamp j) (count j) (records_in left) left) ∙ behind w.processors w.stamp i rest inv.4 left r taken,
+          ∙ ap (written (written out 0 (take (i * 16) bytes)) (i * 16))
+          (sym (ap (take 16) taken.1 ∙ take_at (encoded r) left 16 refl) ∙ ap (take 16) inv.2)
+          ∙ written_more out bytes (i * 16) 16 (omega (arith, wide, t.whole, all))
+          ∙ ap (λ k. written out 0 (take k bytes)) next,
+      (λ j. wrong_from (put.processors j) (stamp j) (count j) (records_in left) left)
+          ∙ behind w.processors w.stamp i rest inv.4 left r taken,
     )
 
 -- a put is not refused
@@ -68,10 +80,14 @@ pub returns-in_err-put : goal.returns-in_err-put
 returns-in_err-put c =
     let w = c.loop-record.writer in
     let t = c.in_ok-trace.trace in
-    let same = ap (λ x. x.bytes.now) c.into_iter-record-iterator.ensures.into_iter_gives ∙ c.records-record-items.ensures in
+    let same =
+    ap (λ x. x.bytes.now) c.into_iter-record-iterator.ensures.into_iter_gives
+    ∙ c.records-record-items.ensures in
     let inv = c.loop-record.invariant in
-    let done = put_taken w.processors w.stamp w.count (records_in t.records.now) c.loop-record.record-iterator.bytes.now c.next.new.self.bytes.now
-    c.loop-record.output c.in-Some.record inv.4 c.in-Some.ensures.steps (inv.1 ∙ ap records_in same) t.few
+    let done =
+    put_taken w.processors w.stamp w.count (records_in t.records.now)
+    c.loop-record.record-iterator.bytes.now c.next.new.self.bytes.now c.loop-record.output
+    c.in-Some.record inv.4 c.in-Some.ensures.steps (inv.1 ∙ ap records_in same) t.few
     (omega (arith, c.count.ensures, c.if-output-count.false, c.loop-record.auto.output)) in
     absurd (not_some (ap result_err (c.in_err-put.ensures.answer ∙ sym (ap (λ p. p.answer) done))))
 
@@ -86,7 +102,9 @@ returns c =
     let told = c.in_ok-trace.ensures in
     let w = c.loop-record.writer in
     let bytes = c.into_iter-record-iterator.result.bytes.now in
-    let same : bytes ≡ recs = ap (λ x. x.bytes.now) c.into_iter-record-iterator.ensures.into_iter_gives ∙ c.records-record-items.ensures in
+    let same : bytes ≡ recs
+    = ap (λ x. x.bytes.now) c.into_iter-record-iterator.ensures.into_iter_gives
+    ∙ c.records-record-items.ensures in
     let rest = c.loop-record.record-iterator.bytes.now in
     let inv = c.loop-record.invariant in
     let none : Takes rest None c.next.new.self.bytes.now = c.in-None.ensures.steps in
@@ -96,13 +114,20 @@ returns c =
     let wide : length bytes ≡ length recs = ap length same in
     let processors = inv.0 ∙ c.in_ok-writer.ensures.start.0 ∙ c.processors.ensures in
     let out2 = c.loop-record.output in
-    let put : out2 ≡ written out 0 recs = inv.3 ∙ ap (written out 0) (take_all (w.count * 16) bytes (omega (arith, count, wide, t.whole)) ∙ same) in
+    let put : out2 ≡ written out 0 recs
+    = inv.3
+    ∙ ap (written out 0)
+    (take_all (w.count * 16) bytes (omega (arith, count, wide, t.whole)) ∙ same) in
     let room : n * 16 + 8 ≤ length out = omega (arith, c.count.ensures, c.if-output-count.false) in
-    let long : length out2 ≡ length out = ap length put ∙ length-written out 0 recs (omega (arith, room, t.whole)) in
+    let long : length out2 ≡ length out
+    = ap length put ∙ length-written out 0 recs (omega (arith, room, t.whole)) in
     let rule = copy_fits input out recs p told.value t.sound room in
-    let closed = (λ j. close_rule (processors j) (count j) out2) ∙ close_fits p n out2 (omega (arith, room, long)) in
+    let closed =
+    (λ j. close_rule (processors j) (count j) out2)
+    ∙ close_fits p n out2 (omega (arith, room, long)) in
     let last : recs ++ trailer_bytes (n * 16) p ≡ drop (length input - (n * 16 + 8)) input
-    = ap (λ k. recs ++ trailer_bytes k p) (sym t.whole) ∙ told.last_bytes ∙ ap (λ k. drop (length input - (k + 8)) input) t.whole in
+    = ap (λ k. recs ++ trailer_bytes k p) (sym t.whole) ∙ told.last_bytes
+    ∙ ap (λ k. drop (length input - (k + 8)) input) t.whole in
     record {
       answer = c.close.ensures.answer ∙ ap (λ x. x.answer) closed ∙ sym (ap (λ x. x.answer) rule);
       output = c.close.ensures.output ∙ ap (λ x. x.output) closed

@@ -9,4 +9,5 @@ invariant-loop-i l =
     let rest = l.i-iterator.iter.rest.now in
     let i = l.i-iterator.count in
     (l.i-iterator.iter.size ≡ 16) × (i + records_in rest ≡ records_in l.records)
-    × (wrong_from l.processors l.stamp i (records_in rest) rest ≡ wrong_from l.processors 0 0 (records_in l.records) l.records)
+    × (wrong_from l.processors l.stamp i (records_in rest) rest
+    ≡ wrong_from l.processors 0 0 (records_in l.records) l.records)

@@ -27,10 +27,13 @@ loop-record-preserved c =
     let long : length c.put.new.output ≡ length out = search rules in (
       put.processors ∙ inv.0,
       count ∙ ap (λ n. n + 1) inv.1,
-      (λ j. first_refusal (put.processors j) (count j) (stamp j) (long j) (drop (i + 1) rs)) ∙ goes.1,
-      put.output ∙ sym (ap (λ p. p.output) done) ∙ (λ j. written (inv.3 j) (inv.1 j * 16) (encoded r))
+      (λ j. first_refusal (put.processors j) (count j) (stamp j) (long j) (drop (i + 1) rs))
+          ∙ goes.1,
+      put.output ∙ sym (ap (λ p. p.output) done)
+          ∙ (λ j. written (inv.3 j) (inv.1 j * 16) (encoded r))
           ∙ written_next c.args.output.now rs r i (omega (arith, here)) so_far,
-      subst (HasPut c.put.new.self c.put.new.output) (sym so_far) (c.in_ok-put.ensures.holds_more refl (take i rs) inv.4),
+      subst (HasPut c.put.new.self c.put.new.output) (sym so_far)
+          (c.in_ok-put.ensures.holds_more refl (take i rs) inv.4),
     )
 
 pub returns-clause-output : goal.returns-clause-output
@@ -45,5 +48,8 @@ returns-clause-output c =
     c.close.ensures.output
     ∙ (λ j. (close_rule (served j) (count j) out).output)
     ∙ closed_behind c.args.processors c.args.output.now rs c.in_ok-writer.ensures.answer
-    out (inv.3 ∙ ap (λ qs. written c.args.output.now 0 (flat_map encoded qs)) (take_all c.loop-record.record-index rs (search rules)))
+    out
+    (inv.3
+    ∙ ap (λ qs. written c.args.output.now 0 (flat_map encoded qs))
+    (take_all c.loop-record.record-index rs (search rules)))
     (let room = inv.4.room in omega (arith, room, count))

@@ -10,6 +10,7 @@ invariant-loop-record l =
     let w = l.writer in
     (w.processors ≡ l.initial.writer.processors)
     × (w.count ≡ l.record-index)
-    × (first_refusal w.processors w.count w.stamp (length l.output) (drop l.record-index l.records) ≡ None)
+    × (first_refusal w.processors w.count w.stamp (length l.output) (drop l.record-index l.records)
+    ≡ None)
     × (l.output ≡ written l.initial.output 0 (flat_map encoded (take l.record-index l.records)))
     × HasPut w l.output (take l.record-index l.records)

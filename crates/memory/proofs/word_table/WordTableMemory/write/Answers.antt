@@ -9,4 +9,5 @@ returns-clause-after c =
     let ws = c.args.self.now.words.now in
     let below : c.args.block < blocks_in (length ws) = grind (arith, nat_tests) in
     rw c.copy_from_slice.ensures.after
-    (table_written ws c.args.block (c.args.block * 4 + 4 - c.args.block * 4) c.args.words below (omega arith) (search rules))
+    (table_written ws c.args.block (c.args.block * 4 + 4 - c.args.block * 4) c.args.words below
+    (omega arith) (search rules))

@@ -7,4 +7,5 @@ invariant_of-self-clause-settled c =
     let run = c.args.self.now in
     let t = run.trace in
     rw c.next_of.ensures.value
-    (settled_next t.processors t.records.now t.sound t.served.1 run.next run.eight run.settled c.args.processor c.requires.listed c.requires.inside true)
+    (settled_next t.processors t.records.now t.sound t.served.1 run.next run.eight run.settled
+    c.args.processor c.requires.listed c.requires.inside true)

@@ -12,5 +12,7 @@ returns c =
     let next = c.args.self.now.next in
     let count = records_in c.args.self.now.trace.records.now in
     earliest waits next count c.min_by_key.result
-    (least_by_key _ (λ p. get_or next p 0) _ (λ a r q k. search (rules, tests)) (λ x r q k. search (rules, tests)) _ _ _ c.min_by_key.ensures.runs
-    (YieldsList-from_filter _ (goes waits next count) (YieldsList-from_range 0 8 8 (cc) refl) c.filter.ensures.closure (λ x b q k. search (rules, tests))))
+    (least_by_key _ (λ p. get_or next p 0) _ (λ a r q k. search (rules, tests))
+    (λ x r q k. search (rules, tests)) _ _ _ c.min_by_key.ensures.runs
+    (YieldsList-from_filter _ (goes waits next count) (YieldsList-from_range 0 8 8 (cc) refl)
+    c.filter.ensures.closure (λ x b q k. search (rules, tests))))

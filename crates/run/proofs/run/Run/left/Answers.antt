@@ -17,6 +17,9 @@ returns-clause-value c =
     let n = c.count.result in
     let numbers = range_with_len 0 n in
     let all = count_from_yields_List c.filter.result c.count-2.result c.count-2.ensures.ran
-    (YieldsList-from_filter _ (is_left run) (YieldsList-from_range 0 n n (cc) (omega arith)) c.filter.ensures.closure (λ x b q k. search (rules, tests))) in
-    let many-records : n ≡ length (records_for run) = c.count.ensures ∙ sym (many t.processors t.records.now t.sound t.served.1) in
-    all ∙ length-filter (is_left run) numbers ∙ counted (is_left run) n 0 ∙ ap (how_many (is_left run) 0) many-records
+    (YieldsList-from_filter _ (is_left run) (YieldsList-from_range 0 n n (cc) (omega arith))
+    c.filter.ensures.closure (λ x b q k. search (rules, tests))) in
+    let many-records : n ≡ length (records_for run) =
+    c.count.ensures ∙ sym (many t.processors t.records.now t.sound t.served.1) in
+    all ∙ length-filter (is_left run) numbers ∙ counted (is_left run) n 0
+    ∙ ap (how_many (is_left run) 0) many-records

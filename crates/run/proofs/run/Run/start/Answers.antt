@@ -7,7 +7,8 @@ invariant_of-result-clause-settled c =
     settled_start t.processors t.records.now t.sound t.served.1 _ c.first_records.ensures.each
 
 pub returns-clause-first : goal.returns-clause-first
-returns-clause-first c ps lines locks mem =
+returns-clause-first c b =
     let t = c.args.trace in
-    let all = all_unfinished t.processors t.records.now t.sound t.served.1 _ c.first_records.ensures.each in
-    λ k. record { processors = ps; lines = lines; locks = locks; memory = mem; unfinished = all k; steps = 0; cycles = 0 }
+    let all = all_unfinished t.processors t.records.now t.sound t.served.1 _ c.first_records.ensures.each
+    in
+    λ k. record { board = b; unfinished = all k; steps = 0; cycles = 0 }

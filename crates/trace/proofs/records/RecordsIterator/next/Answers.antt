@@ -8,6 +8,7 @@ returns-clause-steps c =
     let cut = c.in_ok-bytes.ensures.cases in
     let told = c.in_ok-record.ensures in (
       sym (told.value ∙ ap decoded cut.0),
-      sym (take-append-drop 16 bytes) ∙ ap (λ front. front ++ drop 16 bytes) (sym (told.back ∙ cut.0))
+      sym (take-append-drop 16 bytes)
+          ∙ ap (λ front. front ++ drop 16 bytes) (sym (told.back ∙ cut.0))
           ∙ ap (λ rest. encoded c.in_ok-record.record ++ rest) (sym cut.1),
     )

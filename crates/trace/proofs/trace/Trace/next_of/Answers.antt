@@ -17,6 +17,8 @@ returns-clause-value c =
     = λ i below. ap (λ x. x == p)
     (ap (λ ys. get_or ys 4 0) (record_at bytes chunks i [] told.front told.front_len below)
     ∙ get_or-take 16 (drop (i * 16) bytes) 4 0 (omega arith) ∙ get_or-drop (i * 16) bytes 4 0) in
-    let found = lowest_found (is_of p bytes) seen c.args.from (length chunks) (records_in bytes - c.args.from) (omega (arith, told.front_len)) same _ _ c.find.result c.find.ensures.ran
+    let found =
+    lowest_found (is_of p bytes) seen c.args.from (length chunks) (records_in bytes - c.args.from)
+    (omega (arith, told.front_len)) same _ _ c.find.result c.find.ensures.ran
     (λ x q k. search rules) (λ x q k. search rules) in
     c.unwrap_or.ensures ∙ (λ k. unwrap_or (found k) (told.front_len k))

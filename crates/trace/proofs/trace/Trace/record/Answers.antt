@@ -8,8 +8,13 @@ returns c =
     let chunks = c.as_chunks.ensures in
     let found = c.in_ok-get.ensures.lookup in
     let below : c.args.index < length c.as_chunks.result.0.now = search rules in
-    let same = found.1 ∙ record_at c.args.self.now.records.now c.as_chunks.result.0.now c.args.index _ chunks.front chunks.front_len below in
+    let same =
+    found.1
+    ∙ record_at c.args.self.now.records.now c.as_chunks.result.0.now c.args.index _ chunks.front
+    chunks.front_len below in
     record {
       value = c.decode.ensures.value ∙ ap decoded same;
-      back = subst (λ bytes. IfSome c.decode.result (λ got. encoded got ≡ bytes)) same c.decode.ensures.back;
+      back =
+          subst (λ bytes. IfSome c.decode.result (λ got. encoded got ≡ bytes)) same
+          c.decode.ensures.back;
     }

@@ -9,6 +9,7 @@ returns-clause-reads_back c rs h =
     let w = c.args.self in
     let out = c.args.output.now in (
       refl,
-      ap (λ bytes. trace_of (take (w.count * 16 + 8) bytes)) (c.put_bytes.ensures ∙ ap (written out (w.count * 16)) c.encode.ensures)
+      ap (λ bytes. trace_of (take (w.count * 16 + 8) bytes))
+          (c.put_bytes.ensures ∙ ap (written out (w.count * 16)) c.encode.ensures)
           ∙ closed_reads w.processors w.count w.stamp out rs w.few w.served.0 w.served.1 h,
     )

@@ -9,7 +9,8 @@ returns-clause-output c =
     let w = c.args.self.now in
     let out = c.args.output.now in
     c.put_bytes.ensures ∙ ap (written out (w.count * 16)) c.encode.ensures.value
-    ∙ ap (λ p. p.output) (put_done w.processors w.count w.stamp out c.args.next c.in_ok-admit.ensures.answer)
+    ∙ ap (λ p. p.output)
+    (put_done w.processors w.count w.stamp out c.args.next c.in_ok-admit.ensures.answer)
 
 pub returns-clause-holds_more : goal.returns-clause-holds_more
 returns-clause-holds_more c ok rs h =
@@ -18,6 +19,7 @@ returns-clause-holds_more c ok rs h =
     let r = c.args.next in
     let kept = c.in_ok-admit.ensures in
     rw (c.put_bytes.ensures ∙ ap (written out (w.count * 16)) c.encode.ensures.value)
-    (rw kept.processors (rw kept.count (rw kept.stamp (put_holds w.processors w.count w.stamp out r rs (encoded r) refl
+    (rw kept.processors (rw kept.count (rw kept.stamp
+    (put_holds w.processors w.count w.stamp out r rs (encoded r) refl
     (ap decoded (sym c.encode.ensures.value) ∙ c.encode.ensures.back)
-    (put_follows w.processors w.count w.stamp out r c.in_ok-admit.ensures.answer) (c.in_ok-admit.ensures.room refl) h))))
+    (put_follows w.processors w.count w.stamp out r kept.answer) (kept.room refl) h))))
