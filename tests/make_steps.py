@@ -3,6 +3,9 @@
 
     python3 tests/make_steps.py           write both files
     python3 tests/make_steps.py --check   exit 1 if they are not up to date
+    python3 tests/make_steps.py --model   compare every case with tests/model.py, but for who
+                                          supplied a block, who holds a lock and which block
+                                          was swapped out or refused: the model does not tell
 
 stdin holds, for each case: a byte with the length of its name, the name, then
 processors (1 byte), columns (2), ways (1), lock entries (1) and words of memory (2),
@@ -17,6 +20,7 @@ import sys
 
 sys.dont_write_bytecode = True
 import make_cases
+import model
 
 OTHERS = {"new": b"N", "holder": b"H", "lend": b"L"}
 STEPS = pathlib.Path(__file__).resolve().parent.parent / "crates" / "test_steps"
@@ -66,9 +70,73 @@ def files(cases):
                                for case in cases)}
 
 
+def told(line):
+    """What an expected line tells that the model tells too, as a list of words."""
+    words = line.split()
+    if words[0] in ("states", "locks"):
+        return words[:1] + sorted(words[1:])
+    if words[3] == "OK":
+        supplier, swapped = words[10:12]
+        words[10] = supplier if supplier in ("M", "--") else "C"
+        words[11] = "no" if swapped == "--------" else "yes"
+    elif words[3] == "WT":
+        del words[4]
+    else:
+        del words[4:]
+    return words
+
+
+def answered(p, command, address, answer):
+    """The words of the model's answer."""
+    name, word, found, left, cycles, events = answer
+    words = [str(p), command, "%08X" % address, name]
+    if name == "OK":
+        supplier = {"memory": "M", "cache": "C", None: "--"}[events.supplier]
+        words += ["%08X" % word, found, left, events.bus or "--", str(int(events.lk)), str(int(events.ul)),
+                  supplier, "yes" if events.swapped else "no", "%04d" % cycles]
+    elif name == "WT":
+        words += [found, "%04d" % cycles]
+    return words
+
+
+def played(case):
+    """What the model tells of a case."""
+    processors, columns, ways, entries, words = struct.unpack("<BHBBH", case.geometry)
+    dead = [block for block, in map(struct.Struct("<H").unpack, case.dead)]
+    measures = model.Measures(processors, columns, ways, entries)
+    if not model.lawful(measures):
+        yield []
+        return
+    cluster = model.Cluster(measures, words, dead)
+    for record in case.records:
+        _, p, code, _, address, data = struct.unpack("<IBBHII", record)
+        command = model.COMMANDS[code]
+        yield answered(p, command, address, cluster.issue(p, command, address, data))
+    yield ["states"] + sorted("%d:%04d=%s" % (p, line.block, line.state)
+                              for p, cache in enumerate(cluster.caches) for line in cache.values())
+    yield ["locks"] + sorted("%d:%08X=%s" % (p, lock.address, "LW" if lock.awaited else "L")
+                             for p, locks in enumerate(cluster.locks) for lock in locks.values())
+
+
+def differs_from_model(case):
+    """Prints the first line that differs."""
+    wanted, found = [told(line) for line in case.expected], list(played(case))
+    for at in range(max(len(wanted), len(found))):
+        here = [lines[at] if at < len(lines) else [] for lines in (wanted, found)]
+        if here[0] != here[1]:
+            print("== %s, line %d\n-- by hand %s\n-- model   %s" % (
+                case.name, at + 1, " ".join(here[0]), " ".join(here[1])))
+            return True
+    return False
+
+
 def main():
     cases = make_cases.read_cases((STEPS / "steps.txt").read_text(encoding="ascii"),
                                   Case, "steps.txt")
+    if sys.argv[1:] == ["--model"]:
+        wrong = sum(differs_from_model(case) for case in cases)
+        print("%d cases, %d differ from the model" % (len(cases), wrong))
+        sys.exit(1 if wrong else 0)
     make_cases.write_or_check(STEPS, files(cases), len(cases), sys.argv[1:], __doc__)
 
 

@@ -1,0 +1,5 @@
+pub mod Splits
+pub mod Compared
+pub mod Wrongs
+pub mod Stamps
+pub mod Widths

@@ -1,0 +1,5 @@
+pub mod Events
+pub mod Tallying
+pub mod Copies
+pub mod Statistics
+pub mod Naming
