@@ -60,9 +60,12 @@ pub fn judge<M: Memory>(
     ensures kept { OnOk result (M.standing memory.new ≡ M.standing memory.old) }
 {
     let ours = list_trace(heap, geometry, memory, trace)?;
+    let listing: &[u8] = &ours;
+    let verdict = compare(listing, theirs);
+    let steps = steps_listed(listing);
     Ok(Judgement {
-        verdict: compare(&ours, theirs),
-        steps: steps_listed(&ours),
+        verdict,
+        steps,
         ours,
     })
 }

@@ -37,7 +37,7 @@ returns-else-eq-clause-verdict c =
     let at = c.in-Some-Some in
     let line = c.loop-our_line.line in
     let start = c.loop-our_line.start in
-    ap (differing line start) c.field_of-field.ensures
+    ap (differing line start) c.field_of-field.ensures.value
     ∙ lines_differ line start _ _ _ _ at.ensures at.ensures' (sym c.if-eq.ensures)
     ∙ c.loop-our_line.invariant.verdict
 

@@ -6,7 +6,7 @@ use Rattle.judging.proofs.judging.judge.Goals as goal
 
 pub returns-clause-steps : goal.returns-clause-steps
 returns-clause-steps g c =
-    c.steps_listed.ensures
-    ∙ ap steps_listed (c.deref-2.ensures.value ∙ c.in_ok-ours.ensures.listing)
+    c.steps_listed-steps.ensures
+    ∙ ap steps_listed (c.deref-listing.ensures.value ∙ c.in_ok-ours.ensures.listing)
     ∙ steps_told c.args.geometry.measures (g.M.Memory.model c.args.memory.now)
     (records_of c.args.trace.records.now)
