@@ -4,3 +4,4 @@ pub mod Wrongs
 pub mod Stamps
 pub mod Widths
 pub mod Places
+pub mod Numbered

@@ -52,34 +52,34 @@ not_same xs ys other =
 
 -- the text of a step's line, field by field
 module _ (s : Step) where
-  abbrev from_cycles : List ℕ
+  abbrev pub from_cycles : List ℕ
   from_cycles = fixed 10 4 (shown_of s.answer).cycles
 
-  abbrev from_left : List ℕ
+  abbrev pub from_left : List ℕ
   from_left = field (shown_of s.answer).left ++ from_cycles
 
-  abbrev from_found : List ℕ
+  abbrev pub from_found : List ℕ
   from_found = field (shown_of s.answer).found ++ from_left
 
-  abbrev from_word : List ℕ
+  abbrev pub from_word : List ℕ
   from_word = field (fixed 16 8 (shown_of s.answer).word) ++ from_found
 
-  abbrev from_answer : List ℕ
+  abbrev pub from_answer : List ℕ
   from_answer = field (shown_of s.answer).name ++ from_word
 
-  abbrev from_address : List ℕ
+  abbrev pub from_address : List ℕ
   from_address = field (fixed 16 8 s.request.address) ++ from_answer
 
-  abbrev from_command : List ℕ
+  abbrev pub from_command : List ℕ
   from_command = field (command_named s.request.command) ++ from_address
 
-  abbrev from_processor : List ℕ
+  abbrev pub from_processor : List ℕ
   from_processor = field (fixed 10 1 s.request.processor) ++ from_command
 
-  abbrev whole_text : List ℕ
+  abbrev pub whole_text : List ℕ
   whole_text = field (fixed 10 7 s.number) ++ from_processor
 
-  line_split : line_of s ≡ whole_text ++ (10 ∷ [])
+  pub line_split : line_of s ≡ whole_text ++ (10 ∷ [])
   unfolding line_of
   line_split = sym (simp append_assoc)
 
