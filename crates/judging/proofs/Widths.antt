@@ -57,9 +57,19 @@ pub record Named (r : Result Answer Refusal) : Type 0 where
 
 pub names_long : (r : Result Answer Refusal) → Named r
 names_long (Ok (Done done)) =
-    record { name = refl; found = state_long (found_in (Done done)); left = state_long (left_in (Done done)) }
+    record {
+      name =
+          refl;
+      found = state_long (found_in (Done done));
+      left = state_long (left_in (Done done));
+    }
 names_long (Ok (Wait hit)) =
-    record { name = refl; found = state_long (found_in (Wait hit)); left = state_long (left_in (Wait hit)) }
+    record {
+      name =
+          refl;
+      found = state_long (found_in (Wait hit));
+      left = state_long (left_in (Wait hit));
+    }
 names_long (Err e) = record { name = digits_long 10 2 (number_of e); found = refl; left = refl }
 
 field_long : (text rest : List ℕ) (n : ℕ) → length text ≡ n
