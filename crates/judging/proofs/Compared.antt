@@ -74,7 +74,8 @@ one_more line start x y xs ys d e f =
       not_same = f.not_same;
     }
 
-on_differ : {P Q : Difference → Type 0} (v : Verdict) → ((d : Difference) → P d → Q d)
+-- what holds of a difference
+pub on_differ : {P Q : Difference → Type 0} (v : Verdict) → ((d : Difference) → P d → Q d)
     → OnDiffer v P → OnDiffer v Q
 on_differ Agree f h = tt
 on_differ (Differ d) f h = f d h
@@ -212,6 +213,7 @@ lines_differ line start x y (w ∷ xs) (z ∷ ys) e f other =
     ∙ ap (λ v. if v then rest else differing line start (field_of w z))
     (sym other ∙ (λ i. bytes_eq (our i) (their i)))
 
+-- behind equal lines the verdict is that of the lines to come
 module _ (line : ℕ) (ours theirs : List ℕ) (start : ℕ) (x y : List ℕ)
     (our : Some x ≡ line_from start ours) (their : Some y ≡ line_from start theirs)
     (same : bytes_eq x y ≡ true) where
@@ -237,11 +239,13 @@ module _ (line : ℕ) (ours theirs : List ℕ) (start : ℕ) (x y : List ℕ)
       ∙ (λ i. next (here ours i) (lines_in (drop (length (sym equal i)) (drop start theirs))))
       ∙ (λ i. next (lines_at (start + length x) ours) (here theirs i)))
 
-  pub further : (0 < length x) × (start + length x ≤ length ours)
-  further =
-      let some = some_byte (drop start ours) x (sym our) in
-      let split = ap concat (peel (drop start ours) x (sym our)) in
-      let long = ap length (sym split ∙ whole (drop start ours)) in
-      let parts = length-append x (concat (lines_in (drop (length x) (drop start ours)))) in
-      let left = length-drop start ours in
-      (some, omega arith)
+-- a line begins inside the listing, ends there, and has some bytes
+pub further : (bs : List ℕ) (start : ℕ) (x : List ℕ) → Some x ≡ line_from start bs
+    → (0 < length x) × (start + length x ≤ length bs)
+further bs start x here =
+    let some = some_byte (drop start bs) x (sym here) in
+    let split = ap concat (peel (drop start bs) x (sym here)) in
+    let long = ap length (sym split ∙ whole (drop start bs)) in
+    let parts = length-append x (concat (lines_in (drop (length x) (drop start bs)))) in
+    let left = length-drop start bs in
+    (some, omega arith)

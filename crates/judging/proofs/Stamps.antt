@@ -16,7 +16,8 @@ module _ (t : Trace) where
   many = records_many (records_in t.records.now) t.processors 0 0 t.records.now t.sound
 
   -- the record at an index
-  pub record_at : (i : ℕ) → decoded (take 16 (drop (i * 16) t.records.now)) ≡ slice_get (records_of t.records.now) i
+  pub record_at : (i : ℕ)
+      → decoded (take 16 (drop (i * 16) t.records.now)) ≡ slice_get (records_of t.records.now) i
   record_at i =
       let recs = records_of t.records.now in
       elim (slice_get_cases recs i).1 [

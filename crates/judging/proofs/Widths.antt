@@ -57,9 +57,19 @@ pub record Named (r : Result Answer Refusal) : Type 0 where
 
 pub names_long : (r : Result Answer Refusal) → Named r
 names_long (Ok (Done done)) =
-    record { name = refl; found = state_long (found_in (Done done)); left = state_long (left_in (Done done)) }
+    record {
+      name =
+          refl;
+      found = state_long (found_in (Done done));
+      left = state_long (left_in (Done done));
+    }
 names_long (Ok (Wait hit)) =
-    record { name = refl; found = state_long (found_in (Wait hit)); left = state_long (left_in (Wait hit)) }
+    record {
+      name =
+          refl;
+      found = state_long (found_in (Wait hit));
+      left = state_long (left_in (Wait hit));
+    }
 names_long (Err e) = record { name = digits_long 10 2 (number_of e); found = refl; left = refl }
 
 field_long : (text rest : List ℕ) (n : ℕ) → length text ≡ n
@@ -94,10 +104,15 @@ line_long step =
     let address = fixed 16 8 step.request.address in
     let shown = shown_line (shown_of step.answer) in
     let e0 = shown_long step.answer in
-    let e1 = field_long address shown 8 (digits_long 16 8 step.request.address) in
-    let e2 = field_long command (field address ++ shown) 2 (command_long step.request.command) in
-    let e3 = field_long processor (field command ++ (field address ++ shown)) 1 (digits_long 10 1 step.request.processor) in
-    let e4 = field_long number (field processor ++ (field command ++ (field address ++ shown))) 7 (digits_long 10 7 step.number) in
+    let from_command = field command ++ (field address ++ shown) in
+    let n1 = digits_long 16 8 step.request.address in
+    let n2 = command_long step.request.command in
+    let n3 = digits_long 10 1 step.request.processor in
+    let n4 = digits_long 10 7 step.number in
+    let e1 = field_long address shown 8 n1 in
+    let e2 = field_long command (field address ++ shown) 2 n2 in
+    let e3 = field_long processor from_command 1 n3 in
+    let e4 = field_long number (field processor ++ from_command) 7 n4 in
     omega arith
 
 pub lines_long : (steps : List Step) → length (lines_of steps) ≡ 45 * length steps

@@ -4,3 +4,4 @@ pub mod Verdicts
 pub mod Rules
 pub mod Checks
 pub mod Judged
+pub mod Shown

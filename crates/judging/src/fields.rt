@@ -2,6 +2,7 @@
 ghost use Rattle.std.specs.Prelude.{◌≡◌, ◌≤◌, length};
 ghost use Rattle.judging.specs.Lines.{text_of};
 ghost use Rattle.judging.specs.Fields.{both_begin, differ_in, is_step, step_field, field_in, field_of, name_of};
+ghost use Rattle.judging.specs.Shown.{NamesField};
 
 /// A field of a line of a listing, or what stands for one where lines differ.
 #[derive(Clone, Copy)]
@@ -141,7 +142,8 @@ fn field_in(ours: &[u8], theirs: &[u8]) -> Field
 /// The first field in which two lines of listings differ. Lines that are the same but for a missing
 /// byte 10 differ in their end.
 pub fn field_of(ours: &[u8], theirs: &[u8]) -> Field
-    ensures { result ≡ field_of ours.now theirs.now }
+    ensures value { result ≡ field_of ours.now theirs.now }
+    ensures steps { NamesField ours.now theirs.now result }
 {
     field_in(text_of(ours), text_of(theirs))
 }

@@ -2,7 +2,7 @@
 ghost use Rattle.std.specs.Prelude.{◌≡◌, ◌↔◌, length, IfOk, OnOk};
 ghost use Rattle.trace.specs.Traces.{records_of};
 ghost use Rattle.run.specs.Listing.{listing_on};
-ghost use Rattle.judging.specs.Judged.{steps_on, steps_listed};
+ghost use Rattle.judging.specs.Judged.{steps_on, steps_listed, ShowsStep};
 ghost use Rattle.judging.specs.Verdicts.{verdict_of, IsAgree, OnDiffer, IsFirst};
 
 use crate::comparing::{Verdict, compare};
@@ -57,12 +57,19 @@ pub fn judge<M: Memory>(
     ensures first { let records = records_of trace.entry.records.now in
         let ours = listing_on geometry.measures (M.model memory.old) records in
         IfOk result (λ j. OnDiffer j.verdict (λ d. IsFirst ours theirs.now d)) }
+    ensures numbered { let records = records_of trace.entry.records.now in
+        let ours = listing_on geometry.measures (M.model memory.old) records in
+        let steps = steps_on geometry.measures (M.model memory.old) records in
+        IfOk result (λ j. OnDiffer j.verdict (λ d. ShowsStep steps ours d)) }
     ensures kept { OnOk result (M.standing memory.new ≡ M.standing memory.old) }
 {
     let ours = list_trace(heap, geometry, memory, trace)?;
+    let listing: &[u8] = &ours;
+    let verdict = compare(listing, theirs);
+    let steps = steps_listed(listing);
     Ok(Judgement {
-        verdict: compare(&ours, theirs),
-        steps: steps_listed(&ours),
+        verdict,
+        steps,
         ours,
     })
 }

@@ -18,14 +18,14 @@ returns-in-None-None-clause-agree c = agree_at _ _ _ (returns-in-None-None-claus
 pub loop-our_line-smaller : goal.loop-our_line-smaller
 loop-our_line-smaller c =
     let at = c.in-Some-Some in
-    let more = further c.loop-our_line.line c.args.ours.now c.args.theirs.now _ _ _ at.ensures at.ensures' (search rules) in
+    let more = further c.args.ours.now c.loop-our_line.start _ at.ensures in
     omega arith
 
 pub loop-our_line-preserved : goal.loop-our_line-preserved
 loop-our_line-preserved c =
     let at = c.in-Some-Some in
     let inv = c.loop-our_line.invariant in
-    let more = further c.loop-our_line.line c.args.ours.now c.args.theirs.now _ _ _ at.ensures at.ensures' (search rules) in
+    let more = further c.args.ours.now c.loop-our_line.start _ at.ensures in
     record {
       verdict = go_on _ _ _ _ _ _ at.ensures at.ensures' (search rules) ∙ inv.verdict;
       inside = more.1;
@@ -37,7 +37,7 @@ returns-else-eq-clause-verdict c =
     let at = c.in-Some-Some in
     let line = c.loop-our_line.line in
     let start = c.loop-our_line.start in
-    ap (differing line start) c.field_of-field.ensures
+    ap (differing line start) c.field_of-field.ensures.value
     ∙ lines_differ line start _ _ _ _ at.ensures at.ensures' (sym c.if-eq.ensures)
     ∙ c.loop-our_line.invariant.verdict
 
