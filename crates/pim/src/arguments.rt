@@ -142,9 +142,18 @@ fn judge<'a>(heap: Global) -> Result<Command<'a>, AllocError> {
 
 // An option of a recipe: its name, and its help.
 const RECIPE: [(&str, &str); 4] = [
-    ("start", "The number that the draws begin behind, 0 to 4294967295"),
-    ("draws", "How many draws, 1 to 2000; each makes one record or two"),
-    ("words", "Words of the memory that the records are for, 1 to 4194304"),
+    (
+        "start",
+        "The number that the draws begin behind, 0 to 4294967295",
+    ),
+    (
+        "draws",
+        "How many draws, 1 to 2000; each makes one record or two",
+    ),
+    (
+        "words",
+        "Words of the memory that the records are for, 1 to 4194304",
+    ),
     ("processors", "Processors that the records are for, 1 to 8"),
 ];
 

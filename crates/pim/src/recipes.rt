@@ -29,8 +29,9 @@ pub fn trace_of_recipe(heap: Global, options: &ArgMatches) -> Result<Vec<u8>> {
     // A number that no u8 has is as much outside the limits as 0 is.
     let processors = u8::try_from(number(options, "processors")).unwrap_or(0);
     let mut output = vec![in heap; 0u8; MOST_BYTES]?;
-    let long = load_recipe(&mut output, start, draws, words, processors)
-        .map_err(|refusal| recipe_refused(refusal, outside(draws, words)))?;
+    let long = load_recipe(&mut output, start, draws, words, processors).map_err(
+        |refusal| recipe_refused(refusal, outside(draws, words)),
+    )?;
     output.truncate(long);
     Ok(output)
 }
