@@ -6,8 +6,9 @@
 BINARY is crates/pim/out/pim unless given; `rt build` in crates/pim makes it. First the model
 must give the records that tests/recipes.txt states. Then `pim` must write the model's bytes
 for twenty recipes, and refuse others as the model does: nothing on standard output, a line
-`pim: RECIPE 15: ..` on standard error, status 3. Prints failures only, and exits 1 if there
-is one.
+`pim: RECIPE 15: ..` on standard error, status 3. Last, the model and `pim` run ten recipes on
+clusters of two shapes: every step is done, and the numbers are the same. Prints failures only,
+and exits 1 if there is one.
 """
 import pathlib
 import subprocess
@@ -31,6 +32,9 @@ REFUSED = [
     (1, 0, 1024, 8), (1, 2001, 1024, 8), (1, LAST, 1024, 8), (1, 10, 0, 8), (1, 10, 4194305, 8),
     (1, 10, LAST, 8), (1, 10, 1024, 0), (1, 10, 1024, 9), (1, 10, 1024, 256), (1, 10, 1024, 264),
 ]
+
+# The shapes of the clusters that recipes run on.
+SHAPES = [dict(columns=16, ways=4, lock_entries=2), dict(columns=1, ways=1, lock_entries=1)]
 
 
 def stored():
@@ -76,9 +80,26 @@ def faults_of_pim(binary):
             yield "pim recipe %s: not refused as it must be" % (recipe,)
 
 
+def faults_of_runs(binary):
+    """Each run is done to its end: by the second model, and by `pim`, which must give the same numbers."""
+    for recipe in RECIPES[:10]:
+        data = model.recipe(*recipe)
+        for shape in SHAPES:
+            options = dict(shape, words=(recipe[2] + 3) // 4 * 4)
+            numbers = model.statistics(model.finish(model.pim_run(data, options)))
+            done = sum(n for name, n in numbers.items() if name.startswith("done."))
+            if numbers["left"] or not done == numbers["steps"] == (len(data) - 8) // 16:
+                yield "recipe %s: a step is not done, on %s" % (recipe, shape)
+            words = [text for name, value in options.items()
+                     for text in ("--" + name.replace("_", "-"), str(value))]
+            run = subprocess.run([binary, "run", "--json"] + words, input=data, capture_output=True, timeout=60)
+            if run.stdout != model.as_json(numbers):
+                yield "recipe %s: pim's numbers are not the model's, on %s" % (recipe, shape)
+
+
 def main():
     binary = sys.argv[1] if len(sys.argv) > 1 else TESTS.parent / "crates" / "pim" / "out" / "pim"
-    faults = list(faults_of_model()) + list(faults_of_pim(binary))
+    faults = list(faults_of_model()) + list(faults_of_pim(binary)) + list(faults_of_runs(binary))
     for fault in faults:
         print(fault)
     return 1 if faults else 0
