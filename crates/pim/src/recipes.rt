@@ -2,7 +2,7 @@
 use crate::failure::recipe_refused;
 use anyhow::Result;
 use clap::ArgMatches;
-use recipe::recipe::{MOST_BYTES, load_recipe};
+use recipe::recipe::{load_recipe, most_bytes};
 use std::alloc::Global;
 
 // Every option of a recipe is required, so it is there.
@@ -28,7 +28,7 @@ pub fn trace_of_recipe(heap: Global, options: &ArgMatches) -> Result<Vec<u8>> {
     let words = number(options, "words");
     // A number that no u8 has is as much outside the limits as 0 is.
     let processors = u8::try_from(number(options, "processors")).unwrap_or(0);
-    let mut output = vec![in heap; 0u8; MOST_BYTES]?;
+    let mut output = vec![in heap; 0u8; most_bytes()]?;
     let long = load_recipe(&mut output, start, draws, words, processors).map_err(
         |refusal| recipe_refused(refusal, outside(draws, words)),
     )?;

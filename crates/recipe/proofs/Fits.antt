@@ -1,6 +1,6 @@
 -- The records of a recipe may all be put into a trace, so that only the room decides.
 use Prim.{Unit, tt}
-use Rattle.std.proofs.Common.{◌≡◌, ℕ, zero, suc, ◌+◌, ◌*◌, ◌/◌, ◌%◌, ◌<◌, ◌≤◌, Bool, true, false, cond, ltb, leb, List, [], ◌∷◌, ◌++◌, length, Some, None, Ok, Err, Result, OnOk, sym, refl, ap, ◌∙◌, inl, inr, arith}
+use Rattle.std.proofs.Common.{◌≡◌, ℕ, zero, suc, ◌+◌, ◌*◌, ◌/◌, ◌%◌, ◌<◌, ◌≤◌, Bool, true, false, cond, ltb, leb, List, [], ◌∷◌, ◌++◌, length, Some, None, Ok, Err, Result, OnOk, IfOk, sym, refl, ap, ◌∙◌, inl, inr, arith}
 use Rattle.std.proofs.Math.Nat.{mod-lt}
 use Rattle.std.proofs.lemmas.Bool.Decides.{leb_tells, nat_tests}
 use Rattle.std.proofs.lemmas.Bool.{and_parts, leb-true}
@@ -9,7 +9,7 @@ use Rattle.protocol.specs.declared.command.Command.TheVariants.{R, W, LR, UW}
 use Rattle.protocol.specs.declared.refusal.Refusal.TheVariants as refusal
 use Rattle.trace.specs.declared.record.Record.{Record}
 use Rattle.trace.specs.Traces.{follows, when_some}
-use Rattle.trace.specs.Writing.{written, first_refusal, all_written, trace_bytes, write_rule}
+use Rattle.trace.specs.Writing.{Closed, written, first_refusal, all_written, trace_bytes, write_rule}
 use Rattle.recipe.specs.Draws.{drawn, kind_of, processor_of, record_for, records_for, records_drawn, records_of_recipe}
 use Rattle.recipe.specs.Recipes.{lawful, recorded, recipe_rule}
 
@@ -153,6 +153,30 @@ loaded output start draws words processors rs is_lawful same few =
     ∙ only_room output processors all some most (all_draws words processors draws start some)
     (omega (arith, many))
     ∙ sym (rw is_lawful refl)
+
+-- and no more bytes than those of 4,000 records
+most_recorded : (output : List ℕ) (processors : ℕ) (rs : List Record) → length rs ≤ 4000
+    → IfOk (recorded output processors rs).answer (λ n. n ≤ 4000 * 16 + 8)
+most_recorded output processors rs few = by_room (ltb (length output) (length rs * 16 + 8))
+  where
+    by_room : (b : Bool)
+        → IfOk (cond {A = Closed} b (record { answer = Err refusal.Output; output = output })
+        (record {
+          answer = Ok (length rs * 16 + 8);
+          output = written output 0 (trace_bytes processors rs);
+        })).answer (λ n. n ≤ 4000 * 16 + 8)
+    by_room true = tt
+    by_room false = omega (arith, few)
+
+pub most_loaded : (output : List ℕ) (start draws words processors : ℕ) (rs : List Record)
+    → lawful draws words processors ≡ true → rs ≡ records_of_recipe start draws words processors
+    → length rs ≤ 4000
+    → IfOk (write_rule output processors rs).answer (λ n. n ≤ 4000 * 16 + 8)
+most_loaded output start draws words processors rs is_lawful same few =
+    let all = records_of_recipe start draws words processors in
+    let many : length all ≤ 4000 = omega (arith, ap length same, few) in
+    rw (loaded output start draws words processors rs is_lawful same few, is_lawful)
+    (most_recorded output processors all many)
 
 pub on_ok : {X E P : Type 0} (r : Result X E) → P → OnOk r P
 on_ok (Ok x) h = h

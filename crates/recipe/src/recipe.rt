@@ -1,5 +1,5 @@
 // Loading a trace from a recipe.
-ghost use Rattle.std.specs.Prelude.{◌≡◌, ◌≤◌, IfOk, OnOk, Ok, length, take};
+ghost use Rattle.std.specs.Prelude.{◌≡◌, ◌≤◌, ◌+◌, ◌*◌, IfOk, OnOk, Ok, length, take};
 ghost use Rattle.trace.specs.Traces.{trace_of};
 ghost use Rattle.recipe.specs.Draws.{records_of_recipe};
 ghost use Rattle.recipe.specs.Recipes.{lawful, recipe_rule};
@@ -11,9 +11,6 @@ use protocol::refusal::Refusal;
 use trace::record::{RECORD_SIZE, Record};
 use trace::trailer::TRAILER_SIZE;
 use trace::writing::write_trace;
-
-/// The most bytes that the trace of a recipe takes.
-pub const MOST_BYTES: usize = MOST_RECORDS * RECORD_SIZE + TRAILER_SIZE;
 
 // The most words of a memory.
 const MOST_WORDS: u32 = 4_194_304;
@@ -27,6 +24,13 @@ const UNUSED: Record = Record {
         address: 0,
     },
 };
+
+/// The most bytes that the trace of a recipe takes: 4,000 records and the trailer.
+pub fn most_bytes() -> usize
+    ensures { result ≡ 4000 * 16 + 8 }
+{
+    MOST_RECORDS * RECORD_SIZE + TRAILER_SIZE
+}
 
 fn is_lawful(draws: u32, words: u32, processors: u8) -> bool
     ensures { result ≡ lawful draws words processors }
@@ -80,6 +84,7 @@ pub fn load_recipe(
     ensures reads_back { let records = records_of_recipe start draws words processors in
         IfOk result (λ n. trace_of (take n output.new)
         ≡ Ok (record { processors = processors; records = records })) }
+    ensures most { IfOk result (λ n. n ≤ 4000 * 16 + 8) }
     // whatever the geometry and the memory, no record is left, refused or made to wait
     ensures runs { OnOk result
         (RunsThrough words processors (records_of_recipe start draws words processors)) }
