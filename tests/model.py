@@ -4,13 +4,14 @@
     python3 tests/model.py list [OPTIONS] [TRACE]
     python3 tests/model.py run [--json | --csv] [OPTIONS] [TRACE]
     python3 tests/model.py census [OPTIONS] [TRACE]
+    python3 tests/model.py recipe --start N --draws N --words N --processors N
 
 prints the bytes that `pim` must print for that trace (standard input without a file). `run`
 prints JSON unless asked for CSV. The options are those of `pim`: --columns, --ways,
 --lock-entries, --swap-in, --transfer, --invalidation, --swap-out, --lock-signal, --words and
 --dead B,B,.. . A refused trace, or measures, words or dead blocks that are refused, print one
 line on standard error and end with status 3. `listing` and `census` give the bytes of the
-listing program and the census program.
+listing program and the census program. `recipe` takes four options of its own and no trace.
 
 Nothing here is shared with the crates, so a mistake has to be made twice, in two different
 ways, before both agree on a wrong output.
@@ -366,6 +367,27 @@ def read_trace(data, limit=None):
     return processors, records
 
 
+def drawn_records(start, draws, words, processors):
+    """The records of a recipe, as (stamp, processor, command, address, data)."""
+    x = start
+    for number in range(1, draws + 1):
+        x = (1664525 * x + 1013904223) % 2**32
+        kind, processor, address = x >> 29, (x >> 24 & 31) % processors, (x & 0xFFFFFF) % words
+        commands = ("R",) * 5 + ("W",) * 2 + ("LR UW",)
+        for command in commands[kind].split():
+            yield number, processor, command, address, number if command in WRITING else 0
+
+
+def recipe(start, draws, words, processors):
+    """The bytes of a recipe's trace."""
+    if not (1 <= draws <= 2000 and 1 <= words <= WORDS_LIMIT and 1 <= processors <= 8):
+        raise Refused("RECIPE 15")
+    body = b"".join(struct.pack("<IBBHII", stamp, processor, COMMANDS.index(command), 0, address, data)
+                    for stamp, processor, command, address, data
+                    in drawn_records(start, draws, words, processors))
+    return body + struct.pack("<IBBH", len(body), 1, processors, 0)
+
+
 def make_cluster(measures, words=WORDS, dead=()):
     """A new cluster and its memory, or what refuses it."""
     if not lawful(measures):
@@ -576,16 +598,26 @@ def pim_run(data, options):
 
 def arguments():
     parser = argparse.ArgumentParser(description=__doc__, formatter_class=argparse.RawTextHelpFormatter)
-    parser.add_argument("command", choices=("list", "run", "census"))
+    parser.add_argument("command", choices=("list", "run", "census", "recipe"))
     parser.add_argument("trace", nargs="?")
     shape = parser.add_mutually_exclusive_group()
     shape.add_argument("--json", action="store_true")
     shape.add_argument("--csv", action="store_true")
     for name in Measures._fields[1:] + ("words",):
         parser.add_argument("--" + name.replace("_", "-"), type=int, default=argparse.SUPPRESS)
+    for name in ("start", "draws", "processors"):
+        parser.add_argument("--" + name, type=int, default=argparse.SUPPRESS)
     parser.add_argument("--dead", type=lambda text: [int(block) for block in text.split(",")],
                         default=argparse.SUPPRESS)
     return parser
+
+
+def read_input(trace):
+    """The bytes of the file with a name, or of standard input."""
+    if trace is None:
+        return sys.stdin.buffer.read()
+    with open(trace, "rb") as source:
+        return source.read()
 
 
 def main():
@@ -593,13 +625,11 @@ def main():
     command, trace = options.pop("command"), options.pop("trace")
     options.pop("json")
     shape = as_csv if options.pop("csv") else as_json
-    if trace:
-        with open(trace, "rb") as source:
-            data = source.read()
-    else:
-        data = sys.stdin.buffer.read()
     try:
-        run = pim_run(data, options)
+        if command == "recipe":
+            sys.stdout.buffer.write(recipe(**options))
+            return 0
+        run = pim_run(read_input(trace), options)
     except Refused as bad:
         print("pim: %s: refused" % bad, file=sys.stderr)
         return 3

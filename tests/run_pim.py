@@ -51,7 +51,8 @@ CHANGES = (
 # What each subcommand's help must name.
 CLUSTER = ["--" + name.replace("_", "-") for name in model.Measures._fields[1:]] + ["--words", "--dead"]
 HELP = {"list": CLUSTER, "run": CLUSTER + ["--json", "--csv"], "census": CLUSTER, "text": [],
-        "trace": [], "judge": CLUSTER + ["TRACE", "LISTING"], "check": []}
+        "trace": [], "judge": CLUSTER + ["TRACE", "LISTING"], "check": [],
+        "recipe": ["--start", "--draws", "--words", "--processors"]}
 
 # What a page may use where the machine has it.
 OPTIONAL = ("jq",)

@@ -30,9 +30,10 @@ use Rattle.law.proofs.Told.{accounts}
 use Rattle.law.proofs.Windows.{seen-replicate}
 use Rattle.law.proofs.Words.{tied_same}
 
-record Whole (m : Measures) (b : Board) (l : Ledger) : Type 0 where
-  settled : Settled m b.lines b.memory.words l
-  locks : LocksHold m b l
+-- all that is kept from call to call
+pub record Whole (m : Measures) (b : Board) (l : Ledger) : Type 0 where
+  pub settled : Settled m b.lines b.memory.words l
+  pub locks : LocksHold m b l
 
 module _ (m : Measures) (some_columns : 0 < m.columns) (some_ways : 0 < m.ways) (few : m.processors ≤ 8)
   where
@@ -98,7 +99,7 @@ module _ (m : Measures) (some_columns : 0 < m.columns) (some_ways : 0 < m.ways) 
             four = rule_four m b t.words t.coherent t.tied.four w.settled.four;
           }
 
-      next : (call : Call) → Whole m (left_by m b call) (fed call (said_by m b call) l)
+      pub next : (call : Call) → Whole m (left_by m b call) (fed call (said_by m b call) l)
       next (command q) = record {
         settled = settled_command q (command_rule m b q) (shape m b q);
         locks = locks_on m b l few w.locks w.settled.holder own_found (command q);
@@ -147,7 +148,7 @@ module _ (m : Measures) (mem : Mem) (lawful : Lawful mem) where
       by_low true h = (let is : word_at mem address ≡ word = cc in is)
       by_low false h = absurd (cc)
 
-  new_settled : Settled m (new_board m mem).lines mem.words (opened mem)
+  pub new_settled : Settled m (new_board m mem).lines mem.words (opened mem)
   new_settled = record {
     fit = length-replicate (line_count m) blank_line;
     homed = record {

@@ -27,6 +27,7 @@ on_its_way (refusal.Memory block way) = true
 on_its_way refusal.Trailer = false
 on_its_way (refusal.Record index) = false
 on_its_way refusal.Output = false
+on_its_way refusal.Recipe = false
 
 abbrev pub refused_at_once : {X : Type 0} → Result X Refusal → Bool
 refused_at_once (Ok x) = false

@@ -140,6 +140,37 @@ fn judge<'a>(heap: Global) -> Result<Command<'a>, AllocError> {
     with_cluster(heap, command)
 }
 
+// An option of a recipe: its name, and its help.
+const RECIPE: [(&str, &str); 4] = [
+    (
+        "start",
+        "The number that the draws begin behind, 0 to 4294967295",
+    ),
+    (
+        "draws",
+        "How many draws, 1 to 2000; each makes one record or two",
+    ),
+    (
+        "words",
+        "Words of the memory that the records are for, 1 to 4194304",
+    ),
+    ("processors", "Processors that the records are for, 1 to 8"),
+];
+
+fn recipe<'a>(heap: Global) -> Result<Command<'a>, AllocError> {
+    let mut command = Command::new(heap, "recipe").about("Write the trace that a recipe draws");
+    for (name, help) in &RECIPE {
+        let option = Arg::new(heap, name)
+            .long(name)
+            .value_name("NUMBER")
+            .value_parser(value_parser!(u32))
+            .required(true)
+            .help(help);
+        command = command.arg(option)?;
+    }
+    Ok(command)
+}
+
 /// The command line of `pim`.
 pub fn command<'a>(heap: Global) -> Result<Command<'a>, AllocError> {
     let list = with_trace(heap, "list", "Run a trace and list every step")?;
@@ -157,6 +188,7 @@ pub fn command<'a>(heap: Global) -> Result<Command<'a>, AllocError> {
         .subcommand(with_cluster(heap, census)?)?
         .subcommand(with_trace(heap, "text", "Write a trace as text")?)?
         .subcommand(trace_of_text(heap)?)?
+        .subcommand(recipe(heap)?)?
         .subcommand(judge(heap)?)?
         .subcommand(with_trace(
             heap,

@@ -2,6 +2,7 @@
 use crate::failure::{text_refused, trace_refused};
 use crate::input::read_input;
 use crate::numbers::{as_csv, as_json};
+use crate::recipes::trace_of_recipe;
 use crate::setup::Setup;
 use crate::tables::as_tables;
 use crate::telling::{read_trace, told, verdict};
@@ -103,6 +104,9 @@ pub fn perform(rt: &HostRuntime, matches: &ArgMatches) -> Result<Done> {
     let Some((name, options)) = matches.subcommand() else {
         return Err(anyhow!("no subcommand"));
     };
+    if name == "recipe" {
+        return Ok(good(trace_of_recipe(heap, options)?));
+    }
     let file = if name == "trace" { "TEXT" } else { "TRACE" };
     let input = read_input(rt, options.get_str(file))?;
     if name == "judge" {

@@ -33,3 +33,9 @@ pub fn trace_refused(refusal: Refusal, what: &'static str) -> Error {
 pub fn text_refused(line: usize) -> Error {
     anyhow!("TEXT line {line}: not a line of a trace's text")
 }
+
+/// Draws, words or processors of a recipe outside their limits.
+pub fn recipe_refused(refusal: Refusal, what: &'static str) -> Error {
+    let number = refusal.number();
+    anyhow!("RECIPE {number:02}: {what}")
+}

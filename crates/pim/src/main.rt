@@ -7,6 +7,7 @@ mod commands;
 mod failure;
 mod input;
 mod numbers;
+mod recipes;
 mod setup;
 mod tables;
 mod telling;

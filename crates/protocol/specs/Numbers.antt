@@ -1,7 +1,7 @@
 -- What is returned for each refusal: its number and its values.
 use Rattle.std.specs.Prelude.{ℕ, Some, None}
 use Rattle.protocol.specs.declared.refusal.Refusal.{Refusal}
-use Rattle.protocol.specs.declared.refusal.Refusal.TheVariants.{Geometry, DeadList, TableLength, Processor, Address, Waiting, LockHeld, NoLockEntry, NoLock, CopyElsewhere, MachineCheck, Memory, Trailer, Record, Output}
+use Rattle.protocol.specs.declared.refusal.Refusal.TheVariants.{Geometry, DeadList, TableLength, Processor, Address, Waiting, LockHeld, NoLockEntry, NoLock, CopyElsewhere, MachineCheck, Memory, Trailer, Record, Output, Recipe}
 use Rattle.protocol.specs.declared.refusal.Returned.{Returned}
 
 -- a number without values
@@ -24,6 +24,7 @@ returned (Memory block way) = record (plain 11) { block = Some block; direction 
 returned Trailer = plain 12
 returned (Record index) = record (plain 13) { index = Some index }
 returned Output = plain 14
+returned Recipe = plain 15
 
 abbrev pub number_of : Refusal → ℕ
 number_of r = (returned r).number

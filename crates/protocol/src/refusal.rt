@@ -46,12 +46,14 @@ pub enum Refusal {
     Record(u32),
     /// 14: the output is too short for what is written.
     Output,
+    /// 15: a recipe whose draws, words or processors are outside their limits.
+    Recipe,
 }
 
 /// What is returned for a refusal: its number, and the values that it carries.
 #[derive(Clone, Copy)]
 pub struct Returned {
-    /// 1 to 14.
+    /// 1 to 15.
     pub number: u8,
     /// The state found, of a machine check.
     pub found: Option<State>,
@@ -66,7 +68,7 @@ pub struct Returned {
 impl Refusal {
     // A method and no `From`: two refusals have the number 1 and three carry values, so no `as u8`
     // gives it, and the name says at a call what the `u8` is.
-    /// The number that is returned for the refusal, 1 to 14.
+    /// The number that is returned for the refusal, 1 to 15.
     pub fn number(self) -> u8
         ensures { result ≡ number_of self }
     {
@@ -86,6 +88,7 @@ impl Refusal {
             Refusal::Trailer => 12,
             Refusal::Record(_) => 13,
             Refusal::Output => 14,
+            Refusal::Recipe => 15,
         }
     }
 

@@ -1,0 +1,4 @@
+pub mod Draws
+pub mod Recipes
+pub mod Runs
+pub mod Worked
