@@ -4,8 +4,9 @@
     python3 tests/make_steps.py           write both files
     python3 tests/make_steps.py --check   exit 1 if they are not up to date
     python3 tests/make_steps.py --model   compare every case with tests/model.py, but for who
-                                          supplied a block, who holds a lock and which block
-                                          was swapped out or refused: the model does not tell
+                                          supplied a block, whose lock a WAIT met and which
+                                          block was swapped out or refused: the model does not
+                                          tell. A case with `lend` is left out
 
 stdin holds, for each case: a byte with the length of its name, the name, then
 processors (1 byte), columns (2), ways (1), lock entries (1) and words of memory (2),
@@ -75,6 +76,8 @@ def told(line):
     words = line.split()
     if words[0] in ("states", "locks"):
         return words[:1] + sorted(words[1:])
+    if words[0] in OTHERS:
+        return words
     if words[3] == "OK":
         supplier, swapped = words[10:12]
         words[10] = supplier if supplier in ("M", "--") else "C"
@@ -99,6 +102,17 @@ def answered(p, command, address, answer):
     return words
 
 
+def called(cluster, letter, address):
+    """What the model tells of a call that is no command."""
+    if letter == OTHERS["holder"]:
+        holders = [p for p, locks in enumerate(cluster.locks) if address in locks]
+        return ["holder", "%08X" % address, "P%d" % holders[0] if holders else "--"]
+    memory = cluster.memory
+    cluster.__init__(cluster.measures, cluster.blocks * model.BLOCK, cluster.dead)
+    cluster.memory = memory
+    return ["new", "OK"]
+
+
 def played(case):
     """What the model tells of a case."""
     processors, columns, ways, entries, words = struct.unpack("<BHBBH", case.geometry)
@@ -110,8 +124,11 @@ def played(case):
     cluster = model.Cluster(measures, words, dead)
     for record in case.records:
         _, p, code, _, address, data = struct.unpack("<IBBHII", record)
-        command = model.COMMANDS[code]
-        yield answered(p, command, address, cluster.issue(p, command, address, data))
+        if record[5:6] in OTHERS.values():
+            yield called(cluster, record[5:6], address)
+        else:
+            command = model.COMMANDS[code]
+            yield answered(p, command, address, cluster.issue(p, command, address, data))
     yield ["states"] + sorted("%d:%04d=%s" % (p, line.block, line.state)
                               for p, cache in enumerate(cluster.caches) for line in cache.values())
     yield ["locks"] + sorted("%d:%08X=%s" % (p, lock.address, "LW" if lock.awaited else "L")
@@ -134,8 +151,10 @@ def main():
     cases = make_cases.read_cases((STEPS / "steps.txt").read_text(encoding="ascii"),
                                   Case, "steps.txt")
     if sys.argv[1:] == ["--model"]:
-        wrong = sum(differs_from_model(case) for case in cases)
-        print("%d cases, %d differ from the model" % (len(cases), wrong))
+        asked = [case for case in cases
+                 if all(record[5:6] != OTHERS["lend"] for record in case.records)]
+        wrong = sum(map(differs_from_model, asked))
+        print("%d cases, %d differ from the model" % (len(asked), wrong))
         sys.exit(1 if wrong else 0)
     make_cases.write_or_check(STEPS, files(cases), len(cases), sys.argv[1:], __doc__)
 

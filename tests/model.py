@@ -47,7 +47,7 @@ RI   EM   EC   MC       MC       FI,EM/EC
 RP   I    I    MC       MC       FI,I
 LR   EM   EC   LK,I,EM  LK,I,EM  LK,FI,EM/EC
 UW   EM   EM   MC       MC       FI,EM
-U    EM   EM   MC       MC       I
+U    EM   EC   MC       MC       I
 """
 
 Measures = collections.namedtuple(

@@ -12,4 +12,5 @@ pub mod Doing
 pub mod Finishing
 pub mod Refusing
 pub mod Rule
+pub mod Unlocking
 pub mod Worked

@@ -60,6 +60,10 @@ from_memory word left = Did word left (Some Memory) None false 13
 abbrev pub silent : ℕ → State → Told
 silent word left = Did word left None None false 0
 
+-- a block that is read under lock while another waits for it, and then by the other
+abbrev pub waiting_once : List Request
+waiting_once = by 0 LR 0 ∷ (by 1 R 3 ∷ (by 1 R 8 ∷ (by 0 U 0 ∷ (by 1 R 3 ∷ []))))
+
 pub record WorkedCases : Type 0 where
   pub end_of_memory : told (by 0 R 15 ∷ (by 0 R 16 ∷ []))
       ≡ from_memory 0 EC ∷ (Refused Address ∷ [])
@@ -71,8 +75,11 @@ pub record WorkedCases : Type 0 where
   pub direct_write : told (by 0 (DW 5) 0 ∷ (by 0 R 1 ∷ [])) ≡ silent 0 EM ∷ (silent 0 EM ∷ [])
   pub direct_write_twice : told (by 0 (DW 0) 0 ∷ (by 0 (DW 0) 0 ∷ []))
       ≡ silent 0 EM ∷ (Refused (MachineCheck EM) ∷ [])
-  pub waits_and_wakes : told (by 0 LR 0 ∷ (by 1 R 3 ∷ (by 1 R 8 ∷ (by 0 U 0 ∷ []))))
-      ≡ from_memory 0 EC ∷ (Waits 0 ∷ (Refused Waiting ∷ (Did 0 EM None None true 2 ∷ [])))
+  pub waits_and_wakes : told waiting_once
+      ≡ from_memory 0 EC
+      ∷ (Waits 0 ∷ (Refused Waiting ∷ (Did 0 EC None None true 2
+      ∷ (Did 0 S (Some (Cache 0)) None false 7 ∷ []))))
+  pub unlocked_clean : map first_line (play waiting_once) ≡ EC ∷ (EC ∷ (EC ∷ (EC ∷ (S ∷ []))))
   pub entries_run_out : told (by 0 LR 0 ∷ (by 0 LR 1 ∷ (by 0 LR 0 ∷ [])))
       ≡ from_memory 0 EC ∷ (Refused NoLockEntry ∷ (Refused LockHeld ∷ []))
   pub purged : told (by 0 (W 5) 0 ∷ (by 0 RP 0 ∷ (by 0 R 0 ∷ [])))

@@ -5,6 +5,7 @@ ghost use Rattle.protocol.specs.Places.{line_count, lock_count};
 ghost use Rattle.cluster.specs.Board.{board_of};
 ghost use Rattle.cluster.specs.Making.{tables_fit};
 ghost use Rattle.cluster.specs.Rule.{command_rule};
+ghost use Rattle.cluster.specs.Unlocking.{LeavesClean};
 ghost use Rattle.cluster.specs.Waiting.{WaitsMore, FewerIdle};
 
 use crate::cluster::Cluster;
@@ -78,6 +79,9 @@ impl Cluster {
         ensures idle { let count = self.old.geometry.measures.processors in
             FewerIdle count result self.old.processors self.new.processors }
         ensures cost { IfOk result (λ a. cycles_in a ≤ 4000) }
+        ensures clean { let before = board_of self.old lines.old locks.old (M.model memory.old) in
+            let after = board_of self.new lines.new locks.new (M.model memory.new) in
+            LeavesClean request result before after }
     {
         self.check_tables(lines, locks)?;
         let view = View {

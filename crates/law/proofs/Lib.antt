@@ -10,6 +10,7 @@ pub mod Replacing
 pub mod Drained
 pub mod Shapes
 pub mod Unchanged
+pub mod Unlocked
 pub mod Awaits
 pub mod Lowest
 pub mod Windows

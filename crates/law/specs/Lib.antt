@@ -1,5 +1,6 @@
 pub mod Calls
 pub mod Refusals
+pub mod Unlocks
 pub mod Ledger
 pub mod Accounts
 pub mod Law

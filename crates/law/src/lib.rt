@@ -4,3 +4,4 @@
 pub mod accounts;
 pub mod law;
 pub mod refusals;
+pub mod unlocks;

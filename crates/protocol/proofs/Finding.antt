@@ -1,7 +1,8 @@
 -- The steps of a search over a window.
-use Rattle.std.proofs.Common.{◌≡◌, ℕ, zero, suc, ◌+◌, ◌-◌, ◌<◌, ◌≤◌, Bool, true, false, cond, not, ltb, List, [], ◌∷◌, length, get_or, take, drop, Some, None, Option, sym, refl, ap, ◌∙◌, inl, inr, arith}
+use Rattle.std.proofs.Common.{◌≡◌, ℕ, zero, suc, ◌+◌, ◌-◌, ◌<◌, ◌≤◌, Bool, true, false, cond, not, ◌&&◌, leb, ltb, List, [], ◌∷◌, length, get_or, take, drop, Some, None, Option, sym, refl, ap, ◌∙◌, inl, inr, arith}
 use Rattle.std.specs.List.{position, position_or_len}
-use Rattle.std.proofs.lemmas.List.{drop_more}
+use Rattle.std.proofs.lemmas.List.{drop_more, get_or-drop}
+use Rattle.std.proofs.lemmas.Bool.{and_parts}
 use Rattle.std.proofs.lemmas.Bool.Decides.{leb_tells, nat_tests}
 use Rattle.std.proofs.iter.Yields.{nat_range_steps}
 use Rattle.std.proofs.lemmas.Iterator.{first_from_Range}
@@ -14,7 +15,7 @@ use Rattle.std.specs.declared.ops.Range.{Range}
 use Prim.{Unit}
 use denote.Param.Members.{Mut}
 use denote.Ref.{Bor}
-use Rattle.protocol.specs.Finding.{first_in, lowest_from}
+use Rattle.protocol.specs.Finding.{lies_in, first_in, window_of, lowest_from}
 
 -- the place that is found is counted from where the list starts
 pub first_from : {X : Type 0} (test : X → Bool) (at : ℕ) (xs : List X)
@@ -150,3 +151,48 @@ module _ (test seen : ℕ → Bool) (from end count : ℕ) (all : end - from ≡
   lowest_found u f r ran passes fails =
       by_answer r (first_from_Range (record { start = from; end = end }) u f r
       (λ i. seen i ≡ true) (λ i. seen i ≡ false) ran passes fails)
+
+-- the entry that is found passes the test
+module _ {X : Type 0} (test : X → Bool) (d : X) where
+  pub record Found (at : ℕ) (xs : List X) (place : ℕ) : Type 0 where
+    pub behind : ℕ
+    pub is : place ≡ at + behind
+    pub passes : test (get_or xs behind d) ≡ true
+
+  pub found_in : (count at : ℕ) (xs : List X) (place : ℕ)
+      → first_in test at (take count xs) ≡ Some place → Found at xs place
+  found_in zero at xs place e = absurd (cc)
+  found_in (suc count) at [] place e = absurd (cc)
+  found_in (suc count) at (x ∷ xs) place e = by (test x) refl (found_in count (at + 1) xs place) e
+    where
+      by : (b : Bool) → test x ≡ b
+          → (first_in test (at + 1) (take count xs) ≡ Some place → Found (at + 1) xs place)
+          → cond b (Some at) (first_in test (at + 1) (take count xs)) ≡ Some place
+          → Found at (x ∷ xs) place
+      by true here rest same =
+          let at_place : at ≡ place = cc in
+          record { behind = 0; is = omega (arith, at_place); passes = here }
+      by false here rest later =
+          let found = rest later in
+          record {
+            behind = suc found.behind;
+            is = let same : place ≡ at + 1 + found.behind = found.is in omega (arith, same);
+            passes = found.passes;
+          }
+
+  -- it is an entry of the table
+  pub found_passes : (xs : List X) (start count place : ℕ)
+      → first_in test start (window_of start count xs) ≡ Some place → test (get_or xs place d) ≡ true
+  found_passes xs start count place e =
+      let found = found_in count start (drop start xs) place e in
+      ap (λ i. test (get_or xs i d)) found.is
+      ∙ ap test (sym (get_or-drop start xs found.behind d)) ∙ found.passes
+
+-- in use with a key from `key` to `key` is what has that key
+pub found_key : {X : Type 0} (used : X → Bool) (label : X → ℕ) (key : ℕ) (x : X)
+    → lies_in used label key key x ≡ true → label x ≡ key
+found_key used label key x h =
+    let tests = and_parts (used x && leb key (label x)) (leb (label x) key) h in
+    let low : leb key (label x) ≡ true = (and_parts (used x) (leb key (label x)) tests.0).1 in
+    let high : leb (label x) key ≡ true = tests.1 in
+    grind (arith, nat_tests)

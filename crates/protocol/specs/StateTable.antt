@@ -1,5 +1,6 @@
--- The published state table and snoop table, by cases. One cell differs: W that finds EC leaves EM
--- and not EC, since the written word would be lost.
+-- The published state table and snoop table, by cases. Two cells differ: W that finds EC leaves EM
+-- and not EC, since the written word would be lost, and U that finds EC leaves EC and not EM, since
+-- nothing was written.
 use Rattle.std.specs.Prelude.{ℕ, true, false, Some, None, Option}
 use Rattle.protocol.specs.declared.state.State.{State}
 use Rattle.protocol.specs.declared.state.State.TheVariants.{I, S, SM, EC, EM}
@@ -64,7 +65,7 @@ cell_of UW SM = None
 cell_of UW S = None
 cell_of UW I = fetches FI EM EM
 cell_of U EM = stays EM
-cell_of U EC = stays EM
+cell_of U EC = stays EC
 cell_of U SM = None
 cell_of U S = None
 cell_of U I = stays I

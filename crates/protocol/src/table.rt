@@ -117,7 +117,7 @@ const TABLE: [[Cell; 5]; 8] = [
     [I, I, MC, MC, FI_I],
     [EM, EC, LK_I_EM, LK_I_EM, LK_FI_EM_EC],
     [EM, EM, MC, MC, FI_EM],
-    [EM, EM, MC, MC, I],
+    [EM, EC, MC, MC, I],
 ];
 
 // What a copy in another cache becomes: a row for each bus command, F, FI and I; columns EM, EC,

@@ -13,6 +13,7 @@ returns c =
       direct_write = refl;
       direct_write_twice = refl;
       waits_and_wakes = refl;
+      unlocked_clean = refl;
       entries_run_out = refl;
       purged = refl;
       columns_256 = refl;
