@@ -1,0 +1,2 @@
+// Policies, tried on values worked out by hand.
+#![tactic(auto)]
