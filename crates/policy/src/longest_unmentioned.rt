@@ -3,6 +3,7 @@ ghost use Rattle.std.specs.Prelude.{◌≡◌, ◌+◌, ◌*◌, ◌<◌, ◌≤
 ghost use Rattle.protocol.specs.Places.{line_count};
 ghost use Rattle.policy.specs.Ages.{ageing, new_ageing, new_ages, aged, mentioned, highest_way, column_start};
 ghost use Rattle.policy.specs.LawfulAges.{lawful_ageing};
+ghost use Rattle.policy.specs.Mentions.{NamesLongest};
 
 use crate::extent::Extent;
 use crate::policy::{Policy, Telling};
@@ -78,6 +79,8 @@ impl<'a> LongestUnmentioned<'a> {
             ≡ new_ageing geometry.now.measures ages.old }
         ensures ages { result.ages.now ≡ new_ages geometry.now.measures ages.old }
         ensures lender { result.ages.ghost_name ≡ ages.entry.ghost_name }
+        ensures longest { length ages.old ≡ line_count geometry.now.measures
+            → NamesLongest geometry.now.measures (⟦<LongestUnmentioned<'a> as Policy>⟧.model result) }
     {
         if ages.len() != geometry.line_count() {
             return LongestUnmentioned {
