@@ -1,8 +1,8 @@
 -- A new table's ages tell which way was unmentioned longest.
-use Rattle.std.proofs.Common.{◌≡◌, ◌≢◌, ℕ, zero, suc, ◌+◌, ◌-◌, ◌*◌, ◌<◌, ◌≤◌, Bool, true, false, cond, ◌&&◌, ◌⊎◌, eqb, ltb, List, [], ◌∷◌, ◌++◌, length, map, get_or, take, drop, min, reverse, replicate, slice_set, sym, refl, ap, subst, ◌∙◌, inl, inr, arith, mul-le-mul_right}
+use Rattle.std.proofs.Common.{◌≡◌, ◌≢◌, ℕ, suc, ◌+◌, ◌*◌, ◌<◌, ◌≤◌, Bool, true, false, cond, ◌&&◌, ◌⊎◌, eqb, ltb, List, [], ◌∷◌, ◌++◌, length, map, get_or, take, drop, min, reverse, replicate, sym, refl, ap, subst, ◌∙◌, inl, inr, arith, mul-le-mul_right}
 use Rattle.std.proofs.lemmas.Bool.{cases_Bool, cases_lt, cases_eq, and_parts, and_from, ltb-true, lt-ltb, eqb-true, eq-eqb, ne_eqb, true≢false, cond-true, cond-false}
 use Rattle.std.proofs.lemmas.Bool.Decides.{nat_tests}
-use Rattle.std.proofs.lemmas.List.{places, reverse-append, get_or-replicate, get_or-set_same, get_or-set_other, get_or-map, length-set, length-map, length-take, length-replicate}
+use Rattle.std.proofs.lemmas.List.{places, reverse-append, get_or-replicate, get_or-set_same, get_or-set_other, get_or-map, length-map, length-replicate}
 use Rattle.std.proofs.lemmas.Nat.{same_from_place}
 use Rattle.protocol.specs.declared.measures.Measures.{Measures}
 use Rattle.protocol.specs.Places.{line_count}
@@ -10,10 +10,11 @@ use Rattle.policy.specs.declared.extent.Extent.{Extent}
 use Rattle.policy.specs.declared.policy.Telling.{Telling}
 use Rattle.policy.specs.Ages.{aged, mentioned, column_start, ages_of, ages_told, ageing, highest_way}
 use Rattle.policy.specs.Extents.{extent_of, has_column, has}
-use Rattle.policy.specs.LawfulAges.{length-mentioned, length-ages_told, length-after, length-ages_of, column-within, highest_way-is}
+use Rattle.policy.specs.Lawful.{length-mentioned, length-ages_told, length-after, length-ages_of, column-within}
 use Rattle.policy.specs.Meaning.{state_after}
 use Rattle.policy.specs.Mentions.{mentions, others_since, IsLowestGreatest, NamesLongest}
-use Rattle.policy.proofs.Mentioned.{seen, age-is}
+use Rattle.policy.proofs.Highest.{highest_way-is}
+use Rattle.policy.proofs.Mentioned.{age-is}
 
 -- the state that a history leaves, the latest telling first
 module _ {S : Type 0} (step : S → Telling → S) where

@@ -1,12 +1,12 @@
 -- How many ways of a column were mentioned since a way's last mention; tellings stand latest first.
-use Rattle.std.proofs.Common.{◌≡◌, ◌≢◌, ℕ, zero, suc, ◌+◌, ◌<◌, ◌≤◌, Bool, true, false, cond, not, ◌&&◌, ◌||◌, eqb, ltb, leb, List, [], ◌∷◌, min, sym, refl, ap, ◌∙◌, inl, inr, arith}
+use Rattle.std.proofs.Common.{◌≡◌, ◌≢◌, ℕ, zero, suc, ◌+◌, ◌<◌, ◌≤◌, Bool, true, false, cond, not, ◌||◌, eqb, List, [], ◌∷◌, min, sym, refl, ap, ◌∙◌, inl, inr, arith}
 use Rattle.std.specs.List.{list_any, take_while}
 use Rattle.std.proofs.lemmas.Bool.{cases_Bool, cases_eq, cases_lt, or_cases, or_parts, or_left, or_right, or_from, true≢false, eq-eqb, ne_eqb, cond-true, cond-false}
 use Rattle.std.proofs.lemmas.Bool.Decides.{nat_tests}
 use Rattle.std.proofs.lemmas.List.Sums.{take_while-cons}
 use Rattle.policy.specs.declared.policy.Telling.{Telling}
 use Rattle.policy.specs.Ages.{aged}
-use Rattle.policy.specs.Mentions.{mentions, count_below}
+use Rattle.policy.specs.Mentions.{count_below}
 
 -- counts of numbers below n that pass a test
 module _ (f g : ℕ → Bool) where
@@ -149,14 +149,14 @@ module _ (m : ℕ → Telling → Bool) (n : ℕ) (here : Telling → Bool)
         → (others (t ∷ h) w ≡ others h w) × (others h t.way < others h w)
     told_again since = (
       count-same (seen m (t ∷ h) w) (seen m h w) n
-      (λ j less. past j ∙ elim (cases_eq t.way j) [
-        | inl is ↦
-            let at : seen m h w j ≡ true = ap (seen m h w) (sym is) ∙ since in
-            or_right (eqb t.way j) (seen m h w j) at ∙ sym at
-        | inr not ↦ ap (λ b. b || seen m h w j) (ne_eqb t.way j not)
-      ]),
+          (λ j less. past j ∙ elim (cases_eq t.way j) [
+            | inl is ↦
+                let at : seen m h w j ≡ true = ap (seen m h w) (sym is) ∙ since in
+                or_right (eqb t.way j) (seen m h w j) at ∙ sym at
+            | inr not ↦ ap (λ b. b || seen m h w j) (ne_eqb t.way j not)
+          ]),
       count-less (seen m h t.way) (seen m h w) n t.way (below t e) (seen-self m h t.way) since
-      (λ j. seen-later m h w t.way j since),
+          (λ j. seen-later m h w t.way j since),
     )
 
     -- of one that was not
@@ -164,9 +164,9 @@ module _ (m : ℕ → Telling → Bool) (n : ℕ) (here : Telling → Bool)
         → (others (t ∷ h) w ≡ suc (others h w)) × (others h w ≤ others h t.way)
     told_first since = (
       count-more (seen m h w) (seen m (t ∷ h) w) n t.way (below t e) since
-      (past t.way ∙ or_left (eqb t.way t.way) (seen m h w t.way) (eq-eqb t.way t.way refl))
-      (λ j other. sym (past j ∙ ap (λ b. b || seen m h w j)
-      (ne_eqb t.way j (λ is. other (sym is))))),
+          (past t.way ∙ or_left (eqb t.way t.way) (seen m h w t.way) (eq-eqb t.way t.way refl))
+          (λ j other. sym (past j ∙ ap (λ b. b || seen m h w j)
+          (ne_eqb t.way j (λ is. other (sym is))))),
       count-le (seen m h w) (seen m h t.way) n (λ j. seen-earlier m h w t.way j since),
     )
 

@@ -33,8 +33,8 @@ ages_told e ages telling =
     let start = column_start e telling.processor telling.column in
     if has e telling
     then take start ages
-        ++ (mentioned telling.way (ages_of e telling.processor telling.column ages)
-        ++ drop (start + e.ways) ages)
+    ++ (mentioned telling.way (ages_of e telling.processor telling.column ages)
+    ++ drop (start + e.ways) ages)
     else ages
 
 abbrev pub ageing : Extent → List ℕ → Choice
@@ -59,6 +59,8 @@ abbrev pub new_ages : Measures → List ℕ → List ℕ
 new_ages m ages = if fits m ages then replicate (length ages) 0 else ages
 
 -- over a table that does not fit it is a policy for nothing
+abbrev pub new_extent : Measures → List ℕ → Extent
+new_extent m ages = if fits m ages then extent_of m else no_extent
+
 abbrev pub new_ageing : Measures → List ℕ → Choice
-new_ageing m ages =
-    ageing (if fits m ages then extent_of m else no_extent) (new_ages m ages)
+new_ageing m ages = ageing (new_extent m ages) (new_ages m ages)

@@ -2,5 +2,5 @@ pub mod Meaning
 pub mod Extents
 pub mod Turns
 pub mod Ages
-pub mod LawfulAges
+pub mod Lawful
 pub mod Mentions

@@ -1,5 +1,5 @@
 -- Which way of a column was unmentioned longest, by the tellings alone.
-use Rattle.std.specs.Prelude.{◌≡◌, ℕ, zero, suc, ◌+◌, ◌<◌, ◌≤◌, Bool, if◌then◌else◌, not, ◌&&◌, List, length, min, reverse, take_while, ◌==◌}
+use Rattle.std.specs.Prelude.{ℕ, zero, suc, ◌+◌, ◌<◌, ◌≤◌, Bool, if◌then◌else◌, not, ◌&&◌, List, min, reverse, take_while, ◌==◌}
 use Rattle.std.specs.List.{list_any}
 use Rattle.protocol.specs.declared.measures.Measures.{Measures}
 use Rattle.policy.specs.declared.policy.Telling.{Telling}
@@ -24,7 +24,7 @@ abbrev pub others_since : ℕ → ℕ → ℕ → List Telling → ℕ → ℕ
 others_since ways processor column tellings way =
     count_below ways
     (λ other. list_any (mentions processor column other)
-        (since_mention processor column tellings way))
+    (since_mention processor column tellings way))
 
 -- of the ways below their number, the lowest of those that have the greatest `value`
 pub record IsLowestGreatest (value : ℕ → ℕ) (ways way : ℕ) : Type 0 where

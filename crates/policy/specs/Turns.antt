@@ -1,18 +1,17 @@
 -- The policy that takes the ways in turn.
-use Rattle.std.specs.Prelude.{ℕ, ◌+◌, ◌%◌, ◌≤◌, if◌then◌else◌, ◌&&◌, List, replicate, slice_index, slice_set}
-use Rattle.std.proofs.Common.{arith}
+use Rattle.std.specs.Prelude.{ℕ, ◌+◌, ◌%◌, if◌then◌else◌, ◌&&◌, List, replicate, slice_index, slice_set}
 use Rattle.protocol.specs.declared.measures.Measures.{Measures}
 use Rattle.policy.specs.declared.extent.Extent.{Extent}
 use Rattle.policy.specs.declared.policy.Telling.{Telling}
 use Rattle.policy.specs.Extents.{extent_of, has}
-use Rattle.policy.specs.Meaning.{Choice, Lawful, state_after}
+use Rattle.policy.specs.Meaning.{Choice, state_after}
 
 -- the processor's turn goes on if it had named the way
 abbrev pub turned : Extent → List ℕ → Telling → List ℕ
 turned e turns telling =
     if telling.named && has e telling
     then slice_set turns telling.processor
-        ((slice_index turns telling.processor % e.ways + 1) % e.ways)
+    ((slice_index turns telling.processor % e.ways + 1) % e.ways)
     else turns
 
 abbrev pub turning : Extent → List ℕ → Choice
@@ -29,6 +28,3 @@ turning e turns =
 -- every turn is 0
 abbrev pub new_turning : Measures → Choice
 new_turning m = turning (extent_of m) (replicate 8 0)
-
-pub lawful_turning : (e : Extent) (turns : List ℕ) → 1 ≤ e.ways → Lawful (turning e turns)
-lawful_turning e turns some = record { named = λ later processor column p c. omega arith }

@@ -1,8 +1,8 @@
 // An age for each line, by which the way that was unmentioned longest is named.
 ghost use Rattle.std.specs.Prelude.{◌≡◌, ◌+◌, ◌*◌, ◌<◌, ◌≤◌, length, [], ◌∷◌, fold, max, position, ◌==◌};
 ghost use Rattle.protocol.specs.Places.{line_count};
-ghost use Rattle.policy.specs.Ages.{ageing, new_ageing, new_ages, aged, mentioned, highest_way, column_start};
-ghost use Rattle.policy.specs.LawfulAges.{lawful_ageing};
+ghost use Rattle.policy.specs.Ages.{ageing, new_ageing, new_extent, new_ages, aged, mentioned, highest_way, column_start};
+ghost use Rattle.policy.specs.Lawful.{lawful_ageing};
 ghost use Rattle.policy.specs.Mentions.{NamesLongest};
 
 use crate::extent::Extent;
@@ -77,10 +77,12 @@ impl<'a> LongestUnmentioned<'a> {
     pub fn new(geometry: &Geometry, ages: &'a mut [u8]) -> LongestUnmentioned<'a>
         ensures meaning { ⟦<LongestUnmentioned<'a> as Policy>⟧.model result
             ≡ new_ageing geometry.now.measures ages.old }
+        ensures extent { result.extent ≡ new_extent geometry.now.measures ages.old }
         ensures ages { result.ages.now ≡ new_ages geometry.now.measures ages.old }
         ensures lender { result.ages.ghost_name ≡ ages.entry.ghost_name }
-        ensures longest { length ages.old ≡ line_count geometry.now.measures
-            → NamesLongest geometry.now.measures (⟦<LongestUnmentioned<'a> as Policy>⟧.model result) }
+        ensures longest { let measures = geometry.now.measures in
+            length ages.old ≡ line_count measures
+            → NamesLongest measures (⟦<LongestUnmentioned<'a> as Policy>⟧.model result) }
     {
         if ages.len() != geometry.line_count() {
             return LongestUnmentioned {

@@ -1,6 +1,7 @@
 // A turn for each processor, which goes on where it was taken.
 ghost use Rattle.std.specs.Prelude.{◌≡◌, ◌≤◌, length, []};
-ghost use Rattle.policy.specs.Turns.{turning, lawful_turning, new_turning};
+ghost use Rattle.policy.specs.Lawful.{lawful_turning};
+ghost use Rattle.policy.specs.Turns.{turning, new_turning};
 
 use crate::extent::Extent;
 use crate::policy::{Policy, Telling};

@@ -1,4 +1,4 @@
-use Rattle.std.proofs.Common.{◌<◌, length, slice_index, arith}
+use Rattle.std.proofs.Common.{slice_index, arith}
 use Rattle.policy.specs.Ages.{aged}
 use Rattle.policy.proofs.Tables.{mapped_more}
 use Rattle.policy.proofs.longest_unmentioned.mention.Goals as goal
