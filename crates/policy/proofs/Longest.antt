@@ -48,15 +48,15 @@ module _ (xs ys : List ℕ) (s n : ℕ) (room : s + n ≤ length xs) (long : len
 pub read-mentioned : (xs : List ℕ) (v w : ℕ) → v < length xs → w < length xs
     → get_or (mentioned v xs) w 0
     ≡ cond (eqb w v) 0 (aged (get_or xs v 0) (get_or xs w 0))
-read-mentioned xs v w hv hw =
+read-mentioned xs v w v_in w_in =
     let raised = map (aged (get_or xs v 0)) xs in
     elim (cases_eq w v) [
       | inl is ↦
           ap (λ k. get_or (mentioned v xs) k 0) is
-          ∙ get_or-set_same raised v 0 0 (omega (arith, hv, length-map xs (aged (get_or xs v 0))))
+          ∙ get_or-set_same raised v 0 0 (omega (arith, v_in, length-map xs (aged (get_or xs v 0))))
           ∙ sym (cond-true (eqb w v) 0 _ (eq-eqb w v is))
       | inr not ↦
-          get_or-set_other raised v w 0 0 not ∙ get_or-map (aged (get_or xs v 0)) xs w 0 0 hw
+          get_or-set_other raised v w 0 0 not ∙ get_or-map (aged (get_or xs v 0)) xs w 0 0 w_in
           ∙ sym (cond-false (eqb w v) 0 _ (ne_eqb w v not))
     ]
 
@@ -70,7 +70,8 @@ rows-apart n r q w lt other = elim (cases_lt r q) [
       inr (omega (arith, up))
 ]
 
-module _ (e : Extent) (p c : ℕ) (hp : p < e.processors) (hc : c < e.columns) where
+-- the column c of processor p, and the tellings that change it
+module _ (e : Extent) (p c : ℕ) (p_in : p < e.processors) (c_in : c < e.columns) where
   abbrev here : Telling → Bool
   here t = eqb t.processor p && eqb t.column c && ltb t.way e.ways
 
@@ -87,6 +88,7 @@ module _ (e : Extent) (p c : ℕ) (hp : p < e.processors) (hc : c < e.columns) w
   elsewhere t j h lt = grind (arith, nat_tests)
 
   module _ (ages : List ℕ) (room : e.processors * e.columns * e.ways ≤ length ages) where
+    -- the age of a way after a history
     abbrev age : List Telling → ℕ → ℕ
     age h w = get_or (state_of (ages_told e) ages h) (column_start e p c + w) 0
 
@@ -110,12 +112,12 @@ module _ (e : Extent) (p c : ℕ) (hp : p < e.processors) (hc : c < e.columns) w
       room-state : e.processors * e.columns * e.ways ≤ length xs
       room-state = omega (arith, room, length-state h)
 
-      module _ (hp' : t.processor < e.processors) (hc' : t.column < e.columns) where
+      module _ (told_p_in : t.processor < e.processors) (told_c_in : t.column < e.columns) where
         long : length (ages_of e t.processor t.column xs) ≡ e.ways
-        long = length-ages_of e xs t.processor t.column room-state hp' hc'
+        long = length-ages_of e xs t.processor t.column room-state told_p_in told_c_in
 
         within : start + e.ways ≤ length xs
-        within = column-within e (length xs) t.processor t.column room-state hp' hc'
+        within = column-within e (length xs) t.processor t.column room-state told_p_in told_c_in
 
         column-long : length column ≡ e.ways
         column-long = length-mentioned t.way (ages_of e t.processor t.column xs) ∙ long
@@ -124,6 +126,7 @@ module _ (e : Extent) (p c : ℕ) (hp : p < e.processors) (hc : c < e.columns) w
             → get_or (ages_of e t.processor t.column xs) i 0 ≡ get_or xs (start + i) 0
         at i less = let room : start + e.ways ≤ length xs = within in grind (arith, places)
 
+        -- where the telling is of this column, and where it is of another
         read-own : t.way < e.ways
             → get_or written (start + w) 0
             ≡ cond (eqb w t.way) 0
@@ -140,7 +143,7 @@ module _ (e : Extent) (p c : ℕ) (hp : p < e.processors) (hc : c < e.columns) w
         other-row : here t ≡ false → t.way < e.ways
             → p * e.columns + c ≢ t.processor * e.columns + t.column
         other-row other low same =
-            let parts = same_from_place p c t.processor t.column e.columns hc hc' same in
+            let parts = same_from_place p c t.processor t.column e.columns c_in told_c_in same in
             true≢false (sym (and_from _ _ (and_from _ _ (eq-eqb _ _ (sym parts.0))
             (eq-eqb _ _ (sym parts.1))) (lt-ltb _ _ low)) ∙ other)
 
@@ -169,18 +172,19 @@ module _ (e : Extent) (p c : ℕ) (hp : p < e.processors) (hc : c < e.columns) w
           let place = and_parts (eqb t.processor p) (eqb t.column c) parts.0 in
           let ep : t.processor ≡ p = eqb-true _ _ place.0 in
           let ec : t.column ≡ c = eqb-true _ _ place.1 in
-          let hp' : t.processor < e.processors = omega (arith, ep, hp) in
-          let hc' : t.column < e.columns = omega (arith, ec, hc) in
+          let told_p_in : t.processor < e.processors = omega (arith, ep, p_in) in
+          let told_c_in : t.column < e.columns = omega (arith, ec, c_in) in
           let is : has e t ≡ true
-          = and_from _ _ (and_from _ _ (lt-ltb _ _ hp') (lt-ltb _ _ hc')) parts.1 in
+          = and_from _ _ (and_from _ _ (lt-ltb _ _ told_p_in) (lt-ltb _ _ told_c_in)) parts.1 in
           let same : start ≡ column_start e p c
           = ap (λ q. column_start e q t.column) ep ∙ ap (column_start e p) ec in
           ap (λ zs. get_or zs (column_start e p c + w) 0) (cond-true (has e t) written xs is)
           ∙ ap (λ s. get_or written (s + w) 0) (sym same)
-          ∙ read-own hp' hc' (ltb-true _ _ parts.1)
+          ∙ read-own told_p_in told_c_in (ltb-true _ _ parts.1)
           ∙ ap (λ s. cond (eqb w t.way) 0 (aged (get_or xs (s + t.way) 0) (get_or xs (s + w) 0)))
           same
 
+    -- what one more telling makes of an age
     step : (t : Telling) (h : List Telling) (w : ℕ) → w < e.ways
         → age (t ∷ h) w
         ≡ cond (here t) (cond (eqb w t.way) 0 (aged (age h t.way) (age h w))) (age h w)
@@ -203,9 +207,10 @@ module _ (e : Extent) (p c : ℕ) (hp : p < e.processors) (hc : c < e.columns) w
 
     young : (w : ℕ) → w < e.ways → age zeros room-zeros [] w ≡ 0
     young w lt =
-        let within : column_start e p c + e.ways ≤ n = column-within e n p c room hp hc in
+        let within : column_start e p c + e.ways ≤ n = column-within e n p c room p_in c_in in
         get_or-replicate n (column_start e p c + w) 0 0 (omega (arith, within, lt))
 
+    -- the age of a way is the number of others mentioned since
     number : (w : ℕ) → w < e.ways
         → get_or after (column_start e p c + w) 0 ≡ min 3 (others_since e.ways p c later w)
     number w lt =
@@ -218,7 +223,7 @@ module _ (e : Extent) (p c : ℕ) (hp : p < e.processors) (hc : c < e.columns) w
     at-way w lt =
         let within : column_start e p c + e.ways ≤ length after
         = column-within e (length after) p c
-        (omega (arith, room-zeros, length-after e zeros later)) hp hc in
+        (omega (arith, room-zeros, length-after e zeros later)) p_in c_in in
         let read : get_or (ages_of e p c after) w 0 ≡ get_or after (column_start e p c + w) 0
         = grind (arith, places) in
         read ∙ number w lt
@@ -227,14 +232,14 @@ module _ (e : Extent) (p c : ℕ) (hp : p < e.processors) (hc : c < e.columns) w
         ((ageing e zeros).names later p c)
     named-lowest =
         let long : length (ages_of e p c after) ≡ e.ways
-        = length-ages_of e after p c (omega (arith, room-zeros, length-after e zeros later)) hp hc in
+        = length-ages_of e after p c (omega (arith, room-zeros, length-after e zeros later)) p_in c_in in
         let named = highest_way-is (ages_of e p c after) (omega (arith, long, some)) in
         let low : highest_way (ages_of e p c after) < e.ways = omega (arith, named.below, long) in
         let top = at-way (highest_way (ages_of e p c after)) low in
         subst
         (IsLowestGreatest (λ way. min 3 (others_since e.ways p c later way)) e.ways)
         (sym (cond-true (has_column e p c) (highest_way (ages_of e p c after)) 0
-        (and_from _ _ (lt-ltb _ _ hp) (lt-ltb _ _ hc))))
+        (and_from _ _ (lt-ltb _ _ p_in) (lt-ltb _ _ c_in))))
         (record {
           below = low;
           greatest =

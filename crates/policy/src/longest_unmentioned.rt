@@ -1,8 +1,9 @@
 // An age for each line, by which the way that was unmentioned longest is named.
 ghost use Rattle.std.specs.Prelude.{◌≡◌, ◌+◌, ◌*◌, ◌<◌, ◌≤◌, length, [], ◌∷◌, fold, max, position, ◌==◌};
 ghost use Rattle.protocol.specs.Places.{line_count};
-ghost use Rattle.policy.specs.Ages.{ageing, new_ageing, new_extent, new_ages, aged, mentioned, highest_way, column_start};
+ghost use Rattle.policy.specs.Ages.{ageing, new_ageing, new_extent, new_ages, aged, mentioned, highest_way, column_start, ages_told};
 ghost use Rattle.policy.specs.Lawful.{lawful_ageing};
+ghost use Rattle.policy.specs.Meaning.{told};
 ghost use Rattle.policy.specs.Mentions.{NamesLongest};
 
 use crate::extent::Extent;
@@ -139,7 +140,14 @@ impl<'a> Policy for LongestUnmentioned<'a> {
         highest_way(&self.ages[start..start + self.extent.ways])
     }
 
-    fn tell(&mut self, telling: Telling) {
+    // The trait's clauses, and what becomes of the table, also of one that does not fit.
+    fn tell(&mut self, telling: Telling)
+        ensures after { ageing self.new.extent self.new.ages.now
+            ≡ told telling (ageing self.old.extent self.old.ages.now) }
+        ensures kept { self.new.ages.ghost_name ∷ [] ≡ self.old.ages.ghost_name ∷ [] }
+        ensures fixed { self.new.extent ≡ self.old.extent }
+        ensures ages { self.new.ages.now ≡ ages_told self.old.extent self.old.ages.now telling }
+    {
         if !self.extent.has(telling) {
             return;
         }
