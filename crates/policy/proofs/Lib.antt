@@ -1,0 +1,4 @@
+pub mod Highest
+pub mod Longest
+pub mod Mentioned
+pub mod Tables
