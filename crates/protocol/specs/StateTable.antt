@@ -88,10 +88,25 @@ snooped bus_i SM = I
 snooped bus_i S = I
 snooped bus_i I = I
 
--- the published order of columns, in the census too
+-- the published order of columns and rows; that of columns in the census too
 abbrev pub column_for : State → ℕ
 column_for EM = 0
 column_for EC = 1
 column_for SM = 2
 column_for S = 3
 column_for I = 4
+
+abbrev pub row_for : Action → ℕ
+row_for R = 0
+row_for W = 1
+row_for DW = 2
+row_for RI = 3
+row_for RP = 4
+row_for LR = 5
+row_for UW = 6
+row_for U = 7
+
+abbrev pub snoop_row_for : BusCommand → ℕ
+snoop_row_for F = 0
+snoop_row_for FI = 1
+snoop_row_for bus_i = 2

@@ -1,6 +1,6 @@
 // The state table and the snoop table: a row for each command, columns EM, EC, SM, S, I.
-ghost use Rattle.std.specs.Prelude.{◌≡◌};
-ghost use Rattle.protocol.specs.StateTable.{cell_of, snooped};
+ghost use Rattle.std.specs.Prelude.{◌≡◌, ◌<◌};
+ghost use Rattle.protocol.specs.StateTable.{cell_of, column_for, row_for, snooped, snoop_row_for};
 
 use crate::command::{Action, BusCommand};
 use crate::state::State;
@@ -128,16 +128,38 @@ const SNOOP: [[State; 5]; 3] = [
     [State::I, State::I, State::I, State::I, State::I],
 ];
 
+// The numbers of `State`, `Action` and `BusCommand` are their columns and rows.
+fn column(state: State) -> usize
+    ensures value { result ≡ column_for state }
+    ensures bound { result < 5 }
+{
+    state as usize
+}
+
+fn row(action: Action) -> usize
+    ensures value { result ≡ row_for action }
+    ensures bound { result < 8 }
+{
+    action as usize
+}
+
+fn snoop_row(bus: BusCommand) -> usize
+    ensures value { result ≡ snoop_row_for bus }
+    ensures bound { result < 3 }
+{
+    bus as usize
+}
+
 /// The cell of the state table for what a command acts as and the state found.
 pub fn look_up(action: Action, found: State) -> Cell
     ensures { result ≡ cell_of action found }
 {
-    TABLE[action as usize][found as usize]
+    TABLE[row(action)][column(found)]
 }
 
 /// The state of another cache's copy after a bus command.
 pub fn snoop(bus: BusCommand, copy: State) -> State
     ensures { result ≡ snooped bus copy }
 {
-    SNOOP[bus as usize][copy as usize]
+    SNOOP[snoop_row(bus)][column(copy)]
 }

@@ -5,7 +5,7 @@ use Rattle.cluster.specs.Board.{Board}
 use Rattle.law.specs.Calls.{answered}
 use Rattle.trace.specs.declared.record.Record.{Record}
 use Rattle.trace.specs.Traces.{Content, trace_of, when_some}
-use Rattle.run.specs.Commands.{steps_on, AsCommands}
+use Rattle.run.specs.Commands.{steps_on, AsCommands, RunAsCommands}
 use Rattle.run.specs.Running.{Running, due, stepped, shown, to_go, run_from, steps_from, started, end_of}
 
 module _ (m : Measures) (records : List Record) where
@@ -31,12 +31,18 @@ module _ (m : Measures) (records : List Record) where
   commands_from (suc n) s = one_more n s (due m records s) (λ i. commands_from n (stepped m records s i))
 
 module _ (m : Measures) (before : Board) where
-  -- what the run leaves is what its commands leave
+  -- what the run of some records leaves is what its commands leave
+  pub records_as_commands : (records : List Record) (end : Running) → end ≡ end_of m before records
+      → RunAsCommands m before end.board records
+  records_as_commands records end last =
+      let first = started records before in
+      subst (λ s. RunAsCommands m before s.board records) (sym last)
+      (commands_from m records (to_go m records first) first)
+
+  -- the same of the records of a trace
   pub as_commands : (bytes : List ℕ) (content : Content) (end : Running)
       → Ok content ≡ trace_of bytes → end ≡ end_of m before content.records
       → AsCommands m before end.board (steps_on m before (trace_of bytes))
   as_commands bytes content end told last =
-      let first = started content.records before in
       subst (λ r. AsCommands m before end.board (steps_on m before r)) told
-      (subst (λ s. AsCommands m before s.board (steps_on m before (Ok content))) (sym last)
-      (commands_from m content.records (to_go m content.records first) first))
+      (records_as_commands content.records end last)

@@ -1,9 +1,11 @@
 // A run that is watched step by step.
-ghost use Rattle.std.specs.Prelude.{◌≡◌, IfOk, OnOk, ⊤};
+ghost use Rattle.std.specs.Prelude.{◌≡◌, IfOk, None, OnOk, ⊤};
 ghost use Rattle.cluster.specs.Board.{board_of};
+ghost use Rattle.law.specs.Along.{LawAlong};
 ghost use Rattle.text.specs.declared.step.Step.{Step};
 ghost use Rattle.trace.specs.Traces.{records_of};
-ghost use Rattle.run.specs.Running.{started, steps_of, end_of, summary_of};
+ghost use Rattle.run.specs.Commands.{RunAsCommands, issued, steps_over};
+ghost use Rattle.run.specs.Running.{due, started, steps_of, end_of, summary_of};
 ghost use Rattle.run.specs.Watching.{SeesAll};
 
 use crate::run::Run;
@@ -60,6 +62,18 @@ pub fn run_watched<M: Memory, W: Watch>(
         let records = records_of trace.entry.records.now in
         let steps = steps_of cluster.old.geometry.measures records (started records before) in
         OnOk result (SeesAll W.sees watcher.old steps watcher.new) }
+    ensures ended { let before = board_of cluster.old lines.old locks.old (M.model memory.old) in
+        let records = records_of trace.entry.records.now in
+        let end = end_of cluster.old.geometry.measures before records in
+        OnOk result (due cluster.old.geometry.measures records end ≡ None) }
+    ensures commands { let before = board_of cluster.old lines.old locks.old (M.model memory.old) in
+        let after = board_of cluster.new lines.new locks.new (M.model memory.new) in
+        let records = records_of trace.entry.records.now in
+        OnOk result (RunAsCommands cluster.old.geometry.measures before after records) }
+    ensures law { let before = board_of cluster.old lines.old locks.old (M.model memory.old) in
+        let records = records_of trace.entry.records.now in
+        let steps = steps_over cluster.old.geometry.measures before records in
+        OnOk result (LawAlong cluster.old.geometry before (issued steps)) }
     ensures geometry { OnOk result (cluster.new.geometry ≡ cluster.old.geometry) }
     ensures kept { OnOk result (M.standing memory.new ≡ M.standing memory.old) }
 {

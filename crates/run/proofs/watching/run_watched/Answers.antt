@@ -1,9 +1,12 @@
-use Rattle.std.proofs.Common.{◌≡◌, ℕ, sym, refl, ap, subst, ◌∙◌}
+use Rattle.std.proofs.Common.{ℕ, sym, refl, ap, subst, ◌∙◌}
 use Rattle.cluster.specs.Board.{board_of}
 use Rattle.trace.specs.Traces.{records_of}
-use Rattle.run.specs.Kept.{Going}
-use Rattle.run.specs.Running.{Running, started, to_go, steps_from, steps_of, summary_of}
+use Rattle.run.specs.Commands.{issued, steps_over}
+use Rattle.run.specs.Kept.{Going, state_of}
+use Rattle.run.specs.Running.{Running, due, started, to_go, steps_from, steps_of, summary_of}
 use Rattle.run.specs.Watching.{SeesAll}
+use Rattle.law.proofs.Along.{law_along}
+use Rattle.run.proofs.Commands.{records_as_commands}
 use Rattle.run.proofs.Ends.{going_start, goes_on, stops, start_few}
 use Rattle.run.proofs.Turns.{few_records, summed}
 use Rattle.run.proofs.watching.run_watched.Goals as goal
@@ -42,8 +45,11 @@ loop-step-preserved g c =
 
 pub returns : goal.returns
 returns g c =
-    let m = c.args.cluster.now.geometry.measures in
+    let cluster = c.args.cluster.now in
+    let m = cluster.geometry.measures in
     let recs = records_of c.args.trace.records.now in
+    let before = board_of cluster c.args.lines.now c.args.locks.now (g.M.Memory.model c.args.memory.now)
+    in
     let inv = c.loop-step.invariant in
     let told = c.in_default.ensures in
     let last = c.step.new in
@@ -57,6 +63,9 @@ returns g c =
       seen = inv.0.2 c.loop-step.watcher
           (subst (λ steps. SeesAll g.W.Watch.sees c.loop-step.watcher steps c.loop-step.watcher)
           (sym stop.no_more) refl);
+      ended = sym (ap (due m recs) stop.end) ∙ stop.none;
+      commands = records_as_commands m before recs (state_of last.self left) stop.end;
+      law = law_along cluster.geometry before (issued (steps_over m before recs));
       geometry = told.geometry ∙ inv.2;
       kept = told.kept ∙ inv.3;
     }
