@@ -3,11 +3,13 @@ ghost use Rattle.std.specs.Prelude.{◌≡◌, ◌≤◌, length, IfOk, if◌the
 ghost use Rattle.protocol.specs.Answers.{cycles_in};
 ghost use Rattle.protocol.specs.Places.{line_count, lock_count};
 ghost use Rattle.cluster.specs.Board.{board_of};
+ghost use Rattle.cluster.specs.Cases.{Sound};
 ghost use Rattle.cluster.specs.Making.{tables_fit};
-ghost use Rattle.cluster.specs.Rule.{command_rule};
+ghost use Rattle.cluster.specs.Rule.{proceeding, command_rule};
 ghost use Rattle.cluster.specs.Unlocking.{LeavesClean};
-ghost use Rattle.cluster.specs.Waiting.{WaitsMore, FewerIdle};
+ghost use Rattle.cluster.specs.Waiting.{Ready, WaitsMore, FewerIdle};
 
+use crate::case::Case;
 use crate::cluster::Cluster;
 use crate::supply::swap_out;
 use crate::view::View;
@@ -53,6 +55,45 @@ impl Cluster {
         self.check_locks(locks)
     }
 
+    // What follows refusals 3 to 10. A function of its own, so that a command that is refused with
+    // one of these does not pay for what only this needs.
+    fn proceed<M: Memory>(
+        &mut self,
+        lines: &mut [Line],
+        locks: &mut [LockEntry],
+        memory: &mut M,
+        case: &Case,
+    ) -> Result<Answer, Refusal>
+        requires rows { length lines.old ≡ line_count self.old.geometry.measures }
+        requires sound { let measures = self.old.geometry.measures in
+            Sound measures (length lines.old) (length locks.old) case.now }
+        requires ready { Ready self.old.processors case.now.processor }
+        ensures answer { let before = board_of self.old lines.old locks.old (M.model memory.old) in
+            result ≡ (proceeding self.old.geometry.measures before case.now).answer }
+        ensures board { let before = board_of self.old lines.old locks.old (M.model memory.old) in
+            board_of self.new lines.new locks.new (M.model memory.new)
+            ≡ (proceeding self.old.geometry.measures before case.now).board }
+        ensures geometry { self.new.geometry ≡ self.old.geometry }
+        ensures kept { M.standing memory.new ≡ M.standing memory.old }
+        ensures waiting { WaitsMore result self.old.processors self.new.processors }
+        ensures idle { let count = self.old.geometry.measures.processors in
+            FewerIdle count result self.old.processors self.new.processors }
+        ensures cost { IfOk result (λ a. cycles_in a ≤ 4000) }
+    {
+        if let Some(holder) = case.lock_hit() {
+            return Ok(Answer::Wait(self.wait(locks, case, holder)));
+        }
+        let view = View {
+            cluster: self,
+            lines,
+            locks,
+        };
+        let supply = view.fetch(memory, case)?;
+        let taken = view.taken(case);
+        let swapped_out = swap_out(memory, view.victim(taken))?;
+        Ok(Answer::Done(self.finish(lines, locks, case, supply, taken, swapped_out)))
+    }
+
     // The tables and the memory are lent each by itself, so that the contract can say of each what
     // is in it afterwards.
     /// Issues a command for a processor at a word address: answers done, or WAIT where the command
@@ -90,12 +131,6 @@ impl Cluster {
             locks,
         };
         let case = view.case_of(memory.blocks(), request)?;
-        if let Some(holder) = case.lock_hit() {
-            return Ok(Answer::Wait(self.wait(locks, &case, holder)));
-        }
-        let supply = view.fetch(memory, &case)?;
-        let taken = view.taken(&case);
-        let swapped_out = swap_out(memory, view.victim(taken))?;
-        Ok(Answer::Done(self.finish(lines, locks, &case, supply, taken, swapped_out)))
+        self.proceed(lines, locks, memory, &case)
     }
 }

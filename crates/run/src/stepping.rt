@@ -62,16 +62,23 @@ impl<'a> Run<'a> {
         }
     }
 
-    // The processor whose next record is the earliest among those that do not wait.
+    // The processor whose next record is the earliest among those that do not wait. By `filter` and
+    // `min_by_key` each processor is asked whether it waits, and the search took twice as long.
     fn due(&self, cluster: &Cluster) -> Option<u8>
         ensures { let waits = awaited_in cluster.now.geometry.measures cluster.now.processors in
             Earliest waits self.now.next (records_in self.now.trace.records.now) result }
     {
         let next: &[usize] = &self.next;
-        let count = self.trace.count();
-        (0..8)
-            .filter(|p| next[*p as usize] < count && awake(cluster, *p))
-            .min_by_key(|p| next[*p as usize])
+        let mut earliest = self.trace.count();
+        let mut due = None;
+        for p in 0..8 {
+            let at = next[p as usize];
+            if at < earliest && awake(cluster, p) {
+                earliest = at;
+                due = Some(p);
+            }
+        }
+        due
     }
 
     // Counts the step and its cycles; an answer that finishes its record moves its processor on.

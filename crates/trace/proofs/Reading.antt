@@ -56,6 +56,24 @@ module _ (bs next rest : List ℕ) (split : bs ≡ next ++ rest) (long : length 
       (ap (drop 16) split ∙ drop_at next rest 16 long)
       ∙ ap (λ x. when_some x (behind rest) (Some i)) (sym e))
 
+-- the same by the record's index
+pub wrong_at : (processors stamp i count : ℕ) (bs : List ℕ) (o : Option Record) → i < count
+    → o ≡ lawful_record processors stamp (take (i * 16 + 16 - i * 16) (drop (i * 16) bs))
+    → wrong_from processors stamp i (count - i) (drop (i * 16) bs)
+    ≡ when_some o (λ r. wrong_from processors r.stamp (i + 1) (count - (i + 1)) (drop ((i + 1) * 16) bs))
+    (Some i)
+wrong_at processors stamp i count bs o below e =
+    let wide : i * 16 + 16 - i * 16 ≡ 16 = omega arith in
+    let on : i * 16 + 16 ≡ (i + 1) * 16 = omega arith in
+    let more : count - i ≡ suc (count - (i + 1)) = omega arith in
+    let n = count - (i + 1) in
+    let behind = λ (ys : List ℕ) (r : Record). wrong_from processors r.stamp (i + 1) n ys in
+    ap (λ m. wrong_from processors stamp i m (drop (i * 16) bs)) more
+    ∙ ap (λ x. when_some x (behind (drop 16 (drop (i * 16) bs))) (Some i))
+    (sym (e ∙ ap (λ m. lawful_record processors stamp (take m (drop (i * 16) bs))) wide))
+    ∙ ap (λ rest. when_some o (behind rest) (Some i))
+    (drop-drop 16 (i * 16) bs ∙ ap (λ m. drop m bs) on)
+
 -- the first n records do not depend on the bytes behind them
 module _ (processors : ℕ) where
   pub wrong_front : (n stamp i : ℕ) (xs ys : List ℕ) → n * 16 ≤ length xs

@@ -19,16 +19,17 @@ pub struct Record {
 fn command_of(code: u8, word: u32) -> Option<Command>
     ensures { result ≡ command_for code word }
 {
-    match (code, word) {
-        (0, 0) => Some(Command::R),
-        (1, _) => Some(Command::W(word)),
-        (2, _) => Some(Command::DW(word)),
-        (3, 0) => Some(Command::RI),
-        (4, 0) => Some(Command::RP),
-        (5, 0) => Some(Command::RB),
-        (6, 0) => Some(Command::LR),
-        (7, _) => Some(Command::UW(word)),
-        (8, 0) => Some(Command::U),
+    match code {
+        1 => Some(Command::W(word)),
+        2 => Some(Command::DW(word)),
+        7 => Some(Command::UW(word)),
+        _ if word != 0 => None,
+        0 => Some(Command::R),
+        3 => Some(Command::RI),
+        4 => Some(Command::RP),
+        5 => Some(Command::RB),
+        6 => Some(Command::LR),
+        8 => Some(Command::U),
         _ => None,
     }
 }

@@ -37,14 +37,16 @@ fn lawful_record(bytes: &[u8], processors: u8, stamp: u32) -> Option<Record>
     decode(bytes).filter(|next| may_follow(next, processors, stamp))
 }
 
-// The index of the first record that breaks a rule, if one does.
+// The index of the first record that breaks a rule, if one does. By `chunks_exact` and `enumerate`
+// reading a long trace took over one and a half times as long.
 fn first_wrong(records: &[u8], processors: u8) -> Option<u32>
     requires { records_in records.now ≤ 1048576 }
     ensures { result ≡ wrong_from processors 0 0 (records_in records.now) records.now }
 {
     let mut stamp = 0;
-    for (i, bytes) in records.chunks_exact(RECORD_SIZE).enumerate() {
-        match lawful_record(bytes, processors, stamp) {
+    for i in 0..records.len() / RECORD_SIZE {
+        let at = i * RECORD_SIZE;
+        match lawful_record(&records[at..at + RECORD_SIZE], processors, stamp) {
             Some(next) => stamp = next.stamp,
             None => return Some(i as u32),
         }

@@ -13,12 +13,19 @@ use protocol::line::Line;
 use protocol::refusal::Refusal;
 use protocol::state::State;
 
+// By `filter` and `count` the whole census took four times as long.
 #[tactic(auto, unfolding(crate::specs::Counting::count_in))]
 fn count(lines: &[Line], state: State) -> u32
     requires { length lines.now ≤ 8192 }
     ensures { result ≡ count_in state lines.now }
 {
-    lines.iter().filter(|line| line.state == state).count() as u32
+    let mut n = 0;
+    for line in lines {
+        if line.state == state {
+            n += 1;
+        }
+    }
+    n
 }
 
 // 8192 lines are the most that a geometry has.

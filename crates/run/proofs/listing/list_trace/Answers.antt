@@ -1,4 +1,4 @@
-use Rattle.std.proofs.Common.{◌≡◌, IfOk, vec_items, ap, ◌∙◌, subst}
+use Rattle.std.proofs.Common.{◌≡◌, IfOk, vec_items, ap, subst}
 use Rattle.trace.specs.Traces.{records_of}
 use Rattle.run.specs.Listing.{all_lines}
 use Rattle.run.proofs.Laws.{new_lent}

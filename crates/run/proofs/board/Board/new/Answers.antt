@@ -1,5 +1,4 @@
 use Rattle.std.proofs.Common.{rules}
-use Rattle.run.specs.Board.{IsNew}
 use Rattle.run.proofs.Laws.{law_from}
 use Rattle.run.proofs.board.Board.new.Goals as goal
 

@@ -1,18 +1,35 @@
-use Rattle.std.proofs.Common.{get_or, refl, rules, tests}
-use Rattle.std.proofs.lemmas.Iterator.{YieldsList-from_range}
-use Rattle.std.proofs.lemmas.Iterator.Consumers.{YieldsList-from_filter}
+use Rattle.std.proofs.Common.{arith, rules, tests}
 use Rattle.cluster.specs.Waiting.{awaited_in}
 use Rattle.trace.specs.Sizes.{records_in}
-use Rattle.run.proofs.Dues.{least_by_key, goes, earliest}
+use Rattle.run.proofs.Dues.{sooner, later, is_earliest}
 use Rattle.run.proofs.run.Run.due.Goals as goal
+use Rattle.run.proofs.run.Run.due.Goals.{then-at-earliest+then-awake, else-at-earliest, else-at-earliest-via-then-at-earliest+else-awake, else-at-earliest-via-else-at-earliest}
+
+pub loop-p-preserved : goal.loop-p-preserved
+loop-p-preserved c =
+    let waits = awaited_in c.args.cluster.now.geometry.measures c.args.cluster.now.processors in
+    let next = c.args.self.now.next in
+    let count = records_in c.args.self.now.trace.records.now in
+    let p = c.loop-p.p in
+    let e = c.loop-p.earliest in
+    let found = c.loop-p.due in
+    elim c.if-at-earliest.branch [
+      | then-at-earliest+then-awake w ↦
+          rw (w.earliest-is, w.due-is)
+          (sooner waits next count p e found (omega (arith)) (search (rules, tests))
+          (search (rules, tests)) c.loop-p.invariant)
+      | else-at-earliest w ↦ elim w.else-at-earliest.branch [
+        | else-at-earliest-via-then-at-earliest+else-awake w' ↦
+            rw (w.earliest-is, w.due-is)
+            (later waits next count p e found (λ idle. absurd (search (rules, tests))) c.loop-p.invariant)
+        | else-at-earliest-via-else-at-earliest w' ↦
+            rw (w.earliest-is, w.due-is)
+            (later waits next count p e found (λ idle. w'.if-at-earliest.false) c.loop-p.invariant)
+      ]
+    ]
 
 pub returns : goal.returns
 returns c =
     let waits = awaited_in c.args.cluster.now.geometry.measures c.args.cluster.now.processors in
-    let next = c.args.self.now.next in
-    let count = records_in c.args.self.now.trace.records.now in
-    earliest waits next count c.min_by_key.result
-    (least_by_key _ (λ p. get_or next p 0) _ (λ a r q k. search (rules, tests))
-    (λ x r q k. search (rules, tests)) _ _ _ c.min_by_key.ensures.runs
-    (YieldsList-from_filter _ (goes waits next count) (YieldsList-from_range 0 8 8 (cc) refl)
-    c.filter.ensures.closure (λ x b q k. search (rules, tests))))
+    is_earliest waits c.args.self.now.next (records_in c.args.self.now.trace.records.now) c.loop-p.p
+    c.loop-p.earliest c.loop-p.due c.loop-p-test.false c.loop-p.invariant
